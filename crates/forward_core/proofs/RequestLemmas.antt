@@ -7,6 +7,7 @@ pub mod Sounds
 pub mod Stepping
 pub mod Wholes
 pub mod Resting
+pub mod Untouched
 pub mod Reading
 pub mod Sending
 pub mod Keeping

@@ -1,2 +1,3 @@
 pub mod Amends
 pub mod Peers
+pub mod Steady

@@ -4,5 +4,6 @@
 mod beginning;
 mod rules;
 mod saying;
+mod steady;
 
 pub use rules::SessionRules;

@@ -1,5 +1,5 @@
 -- Rules leave a response a response, and reply with one.
-use Rattle.std.proofs.Common.{◌≡◌, ℕ, List, [], ◌∷◌, Bool, true, false, cond, map, refl, sym, subst, length, if◌then◌else◌}
+use Rattle.std.proofs.Common.{◌≡◌, ℕ, List, [], ◌∷◌, Bool, true, false, cond, map, refl, subst, length, if◌then◌else◌}
 use Rattle.std.specs.Prelude.{Option, Some, None, Result, Ok, Err, nat_le, slice_get, not, ◌&&◌, decimal}
 use Rattle.std.specs.List.{AllByRecursion, list_any}
 use Rattle.http_model.specs.declared.Why.{Why}
@@ -24,7 +24,7 @@ use Rattle.http_rules.specs.Action.Hosts.{reset, reuri, stands_behind, hosts_agr
 use Rattle.http_rules.specs.Action.Lines.{made_of, made_of_status, with_line, stated, is_bodiless_text, reason_by, remethoded, retargeted, sent_by, sent_to, with_part, with_query}
 use Rattle.http_rules.specs.Action.Replacing.{places, matches, replaced, replaced_values, are_short, with_value, made_of_field, replace_whole, replace_values}
 use Rattle.http_rules.specs.Action.Replies.{redirected, returned, fitting, led_to, format_of, location_on, returning, type_by, payload_text, hdr_field, are_good_texts}
-use Rattle.http_rules.specs.Action.Steps.{add_step, set_step, without_meant, line_step, steps_of}
+use Rattle.http_rules.specs.Action.Steps.{without_meant, line_step, steps_of}
 use Rattle.http_rules.specs.Action.Acts.{left_by, Act, Next, Stop, Replies, Denies, Fails, after_step, run_steps, replying, act}
 use Rattle.http_rules.specs.Rules.{Comes, answers, mode_after, runs, behind, walk, rules_of, amended_by, after_of}
 use Rattle.forward_core.specs.Answer.Status.{is_status_line}

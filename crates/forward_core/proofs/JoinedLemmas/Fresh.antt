@@ -118,6 +118,7 @@ request_for cfg peer r vars came asking put reply reads s =
       at = subst (λ (x : Asked). RequestAt x (record cfg { peer = peer }) r.lane vars came asking put reply) (sym reads) (subst (λ (x : Asked). RequestAt x cfg r.lane vars came asking put reply) reads s.at);
       ending = s.ending;
       line = subst (λ (x : Asked). TellsLine x (record cfg { peer = peer }) came (requests.line_of r)) (sym reads) (subst (λ (x : Asked). TellsLine x cfg came (requests.line_of r)) reads s.line);
+      untouched = s.untouched;
     }
 
 pub answer_for : (cfg : Config) (peer : Option Peer) (a : AnswerSide) (asking : Asking Variables) (server : Coming) (put : List ℕ) (now : Variables) (saying : Saying) → IsSoundSide a → answers.place_of a ≡ answered.Idle

@@ -20,7 +20,8 @@ use Rattle.forward_core.specs.declared.rules.rules.SessionRules.{SessionRules}
 use Rattle.forward_core.specs.declared.request.kept.Kept.{Kept}
 use Rattle.forward_core.specs.Request.Seen as requests
 use Rattle.forward_core.specs.Request.Seen.{unread_at}
-use Rattle.forward_core.specs.Request.Stands.{IsFor, RequestStands, StandsAt, TellsLine, left_of}
+use Rattle.forward_core.specs.Request.Stands.{IsFor, RequestStands, StandsAt, TellsLine, IsUntouchedAt, left_of}
+use Rattle.forward_core.proofs.RequestLemmas.Untouched.{behind_none}
 use Rattle.forward_core.specs.declared.request.place.Place.{Place as Asked}
 use Rattle.forward_core.specs.declared.request.place.Place.TheVariants as asked
 use Rattle.forward_core.specs.declared.request.side.RequestSide.{RequestSide}
@@ -44,6 +45,7 @@ idle_stands cfg side vars came asking to_server reply idle is_for ending line =
       at = subst (λ (x : Asked). StandsAt x cfg side.lane vars came asking to_server reply) (sym idle) tt;
       ending = ending;
       line = subst (λ (x : Asked). TellsLine x cfg came (requests.line_of side)) (sym idle) line;
+      untouched = subst (λ (x : Asked). IsUntouchedAt x side.untouched came) (sym idle) (behind_none came side.untouched);
     }
 
 -- the directions stand so for this past

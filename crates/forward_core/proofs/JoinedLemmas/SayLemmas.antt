@@ -26,7 +26,7 @@ reply_said cfg mid m method vars held keep kept blocks now e v s =
 
 -- the rules are ready where only what is said changes, in an array of that size
 pub ready_saying : (rules : SessionRules) (said : Contents) → said.size ≡ rules.said.size → IsReady rules → IsReady (record rules { said = said })
-ready_saying rules said size r = record { valid = r.valid; scratch = r.scratch; said = size ∙ r.said }
+ready_saying rules said size r = record { valid = r.valid; scratch = r.scratch; said = size ∙ r.said; steady = r.steady; begun = r.begun; clear = r.clear }
 
 -- what is said fits the array of another of that size
 pub said_size : (old new : SessionRules) (size : ℕ) → IsReady new → config_of new ≡ config_of old → size ≡ size_of old → new.said.size ≡ size

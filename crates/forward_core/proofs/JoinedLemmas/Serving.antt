@@ -29,7 +29,7 @@ use Rattle.forward_core.specs.declared.answer.place.Place.{Place as Answered}
 use Rattle.forward_core.specs.declared.answer.place.Place.TheVariants as answered
 use Rattle.forward_core.specs.declared.answer.side.AnswerSide.{AnswerSide}
 use Rattle.forward_core.specs.Joined.Asks.{SaysRefusal}
-use Rattle.forward_core.specs.Joined.Joined.{IsSoundPair, StandAt, IsAt, Holds, KeepsMethod, DirectionsStand, settings_of}
+use Rattle.forward_core.specs.Joined.Joined.{IsSoundPair, IsAt, Holds, KeepsMethod, DirectionsStand, settings_of}
 use Rattle.forward_core.specs.declared.joined.directions.Directions.{Directions}
 use Rattle.forward_core.proofs.JoinedLemmas.Joining.{sound_request, sound_answer, sound_rules, vars_at, held_at, held_sending, kept_sending}
 

@@ -8,7 +8,6 @@ use Rattle.session_model.specs.Meaning.{Meaning}
 use Rattle.session_core.specs.History.{Coming, Continues}
 use Rattle.session_core.specs.Sided.{Sided, Asking, Reply, RequestGoes, Requests}
 use Rattle.http_model.specs.declared.Source.{Source}
-use Rattle.http_model.specs.declared.Source.TheVariants as source
 use Rattle.lane.specs.Direction.Sends.{Past}
 use Rattle.lane.specs.declared.direction.stage.Stage.{Stage}
 use Rattle.lane.specs.Direction.State.{LaneState}

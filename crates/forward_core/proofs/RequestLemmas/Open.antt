@@ -1,5 +1,5 @@
 -- What shows no cut stands in mid-body, or in a trailer section that is still to be whole.
-use Rattle.std.proofs.Common.{◌≡◌, ◌≢◌, ◌⊎◌, inl, inr, ℕ, List, ◌∙◌, sym, refl, subst}
+use Rattle.std.proofs.Common.{◌≡◌, ◌≢◌, inl, inr, ℕ, List, ◌∙◌, sym, refl, subst}
 use Rattle.std.specs.Prelude.{None}
 use Rattle.httparse.specs.Grammar.{HasNoSection}
 use Rattle.http_model.specs.Head.{Field}

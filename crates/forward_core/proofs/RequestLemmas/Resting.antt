@@ -26,7 +26,6 @@ use Rattle.lane.specs.Direction.Promise.{BodyTaken, EndsInSection, body_in, sent
 use Rattle.lane.specs.Direction.Promise as lanes
 use Rattle.lane.specs.declared.direction.stage.Stage.{Stage}
 use Rattle.lane.specs.declared.direction.stage.Stage.TheVariants as stage
-use Rattle.http_model.specs.declared.Source.{Source}
 use Rattle.lane.specs.Direction.State.{LaneState}
 use Rattle.forward_core.specs.declared.request.place.Place.{Place}
 use Rattle.forward_core.specs.declared.request.place.Place.TheVariants as place

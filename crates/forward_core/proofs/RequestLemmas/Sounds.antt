@@ -58,12 +58,12 @@ unread_more place.Sending old new bytes input = ap length input ∙ length-appen
 unread_more place.Idle old new bytes input = refl
 unread_more place.Replied old new bytes input = ap length input ∙ length-append old.input.items bytes
 
-pub seen_as : (old new : LaneState) (at : Place) (line : Buffer) (awaits was now open_ dropped : Bool) (room unread : ℕ) (window : List ℕ)
+pub seen_as : (old new : LaneState) (at : Place) (line : Buffer) (awaits untouched still was now open_ dropped : Bool) (room unread : ℕ) (window : List ℕ)
     → is_none new.ended ≡ open_ → new.input.capacity - length new.input.items ≡ room → unread_at at new.input.items ≡ unread → new.output.items ≡ window
     → new.source ≡ old.source → new.stage ≡ old.stage → new.dropped ≡ dropped → new.msg ≡ old.msg
-    → seen (record { lane = new; place = at; line = line; awaits = awaits; at_rest = now })
-    ≡ record (seen (record { lane = old; place = at; line = line; awaits = awaits; at_rest = was })) { is_open = open_; room = room; unread = unread; window = window; dropped = dropped; at_rest = now }
-seen_as old new at line awaits was now open_ dropped room unread window is_open is_room is_unread is_window source stays is_dropped array =
+    → seen (record { lane = new; place = at; line = line; awaits = awaits; at_rest = now; untouched = still })
+    ≡ record (seen (record { lane = old; place = at; line = line; awaits = awaits; at_rest = was; untouched = untouched })) { is_open = open_; room = room; unread = unread; window = window; dropped = dropped; at_rest = now }
+seen_as old new at line awaits untouched still was now open_ dropped room unread window is_open is_room is_unread is_window source stays is_dropped array =
     λ i. record {
       is_open = is_open i;
       room = is_room i;
@@ -79,11 +79,11 @@ seen_as old new at line awaits was now open_ dropped room unread window is_open 
     }
 
 -- what is seen once the text that waits is dropped
-pub seen_dropped : (old new : LaneState) (at : Place) (line : Buffer) (awaits was now : Bool) → IsWell old → IsWell new → new.limits ≡ old.limits → new.input.items ≡ old.input.items
+pub seen_dropped : (old new : LaneState) (at : Place) (line : Buffer) (awaits untouched was now : Bool) → IsWell old → IsWell new → new.limits ≡ old.limits → new.input.items ≡ old.input.items
     → new.ended ≡ old.ended → new.output.items ≡ [] → new.source ≡ old.source → new.stage ≡ old.stage → new.dropped ≡ true → new.msg.blocks ≡ []
-    → seen (record { lane = new; place = at; line = line; awaits = awaits; at_rest = now })
-    ≡ record (seen (record { lane = old; place = at; line = line; awaits = awaits; at_rest = was })) { window = []; dropped = true; at_rest = now; list = [] }
-seen_dropped old new at line awaits was now well_old well_new limits input ended output source stays dropping blocks =
+    → seen (record { lane = new; place = at; line = line; awaits = awaits; at_rest = now; untouched = untouched })
+    ≡ record (seen (record { lane = old; place = at; line = line; awaits = awaits; at_rest = was; untouched = untouched })) { window = []; dropped = true; at_rest = now; list = [] }
+seen_dropped old new at line awaits untouched was now well_old well_new limits input ended output source stays dropping blocks =
     let room = room_same old new well_old well_new limits input in
     λ i. record {
       is_open = is_none (ended i);

@@ -111,9 +111,9 @@ step_unread place.Sending old new e t = t.shrinks
 step_unread place.Idle old new e t = absurd (cc)
 step_unread place.Replied old new e t = absurd (cc)
 
-pub step_keeps : (at : Place) (line : Buffer) (awaits was : Bool) (old new : LaneState) → at ≡ place.Sending → Steps old new → SoundAt at old
-    → KeepsRequest (seen (record { lane = old; place = at; line = line; awaits = awaits; at_rest = was })) (seen (record { lane = new; place = at; line = line; awaits = awaits; at_rest = true }))
-step_keeps at line awaits was old new e t s = record {
+pub step_keeps : (at : Place) (line : Buffer) (awaits untouched was : Bool) (old new : LaneState) → at ≡ place.Sending → Steps old new → SoundAt at old
+    → KeepsRequest (seen (record { lane = old; place = at; line = line; awaits = awaits; at_rest = was; untouched = untouched })) (seen (record { lane = new; place = at; line = line; awaits = awaits; at_rest = true; untouched = untouched }))
+step_keeps at line awaits untouched was old new e t s = record {
   is_open = ap is_none t.keeps.ended;
   dropped = t.dropped;
   drops = λ d. t.drops (sym t.dropped ∙ d);
@@ -129,9 +129,9 @@ step_keeps at line awaits was old new e t s = record {
 -- ---- where nothing is to go out
 
 -- no text is put out
-pub nothing_put : (at : Place) (line : Buffer) (awaits was now : Bool) (lane : LaneState)
-    → Puts (record { lane = lane; place = at; line = line; awaits = awaits; at_rest = was }) (record { lane = lane; place = at; line = line; awaits = awaits; at_rest = now })
-nothing_put at line awaits was now lane = record {
+pub nothing_put : (at : Place) (line : Buffer) (awaits untouched was now : Bool) (lane : LaneState)
+    → Puts (record { lane = lane; place = at; line = line; awaits = awaits; at_rest = was; untouched = untouched }) (record { lane = lane; place = at; line = line; awaits = awaits; at_rest = now; untouched = untouched })
+nothing_put at line awaits untouched was now lane = record {
   put = [];
   window = sym (append-nil lane.output.items);
   stands = λ cfg vars came_ asking to_server reply h. record {
@@ -139,6 +139,7 @@ nothing_put at line awaits was now lane = record {
     at = subst (λ (text : List ℕ). StandsAt at cfg lane vars came_ asking text reply) (sym (append-nil to_server)) h.at;
     ending = h.ending;
     line = h.line;
+    untouched = h.untouched;
   };
 }
 
@@ -148,9 +149,9 @@ rest_waits place.Sending lane over s h = absurd (over refl (undone lane.stage h 
 rest_waits place.Idle lane over s h = absurd (cc)
 rest_waits place.Replied lane over s h = absurd (cc)
 
-pub rest_keeps : (at : Place) (line : Buffer) (awaits was : Bool) (lane : LaneState) → (at ≡ place.Sending → lane.stage ≢ stage.Sending) → SoundAt at lane
-    → KeepsRequest (seen (record { lane = lane; place = at; line = line; awaits = awaits; at_rest = was })) (seen (record { lane = lane; place = at; line = line; awaits = awaits; at_rest = true }))
-rest_keeps at line awaits was lane over s = record {
+pub rest_keeps : (at : Place) (line : Buffer) (awaits untouched was : Bool) (lane : LaneState) → (at ≡ place.Sending → lane.stage ≢ stage.Sending) → SoundAt at lane
+    → KeepsRequest (seen (record { lane = lane; place = at; line = line; awaits = awaits; at_rest = was; untouched = untouched })) (seen (record { lane = lane; place = at; line = line; awaits = awaits; at_rest = true; untouched = untouched }))
+rest_keeps at line awaits untouched was lane over s = record {
   is_open = refl;
   dropped = refl;
   drops = λ d. refl;

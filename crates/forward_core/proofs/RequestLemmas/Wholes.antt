@@ -90,20 +90,20 @@ came_behind cfg lane vars came_ asks to_server g read bytes =
     let with_bytes : List ℕ → Coming = λ bs. record { bytes = bs; ending = lane.ended } in
     g.head.came_is ∙ ap (λ (bs : List ℕ). with_bytes (g.used ++ bs)) bytes ∙ ap with_bytes (sym (append_assoc g.used read lane.input.items))
 
-pub whole_at : (at : Place) (cfg : Config) (lane : LaneState) (line : Buffer) (awaits rests : Bool) (vars : Variables) (came_ : Coming) (asks : Asking Variables) (to_server : List ℕ) (reply : Reply Variables)
+pub whole_at : (at : Place) (cfg : Config) (lane : LaneState) (line : Buffer) (awaits rests untouched : Bool) (vars : Variables) (came_ : Coming) (asks : Asking Variables) (to_server : List ℕ) (reply : Reply Variables)
     → source_at at lane.source ≡ source.Whole → StandsAt at cfg lane vars came_ asks to_server reply → IsFor cfg lane → ((p : Past) → Stands lane p → Promise lane p)
     → ((p : Past) → Stands lane p → lane.source ≡ source.Whole → HasBody lane p)
-    → WholeCame cfg (record { lane = lane; place = at; line = line; awaits = awaits; at_rest = rests }) vars came_ asks to_server (coming lane lane.input.items)
-whole_at place.Reading cfg lane line awaits rests vars came_ asks to_server reply e h is promise has = absurd (cc)
-whole_at place.Sending cfg lane line awaits rests vars came_ asks to_server reply e h is promise has =
+    → WholeCame cfg (record { lane = lane; place = at; line = line; awaits = awaits; at_rest = rests; untouched = untouched }) vars came_ asks to_server (coming lane lane.input.items)
+whole_at place.Reading cfg lane line awaits rests untouched vars came_ asks to_server reply e h is promise has = absurd (cc)
+whole_at place.Sending cfg lane line awaits rests untouched vars came_ asks to_server reply e h is promise has =
     let read : List ℕ = h.sends.sends.used in
     record {
       used = h.used ++ read;
       came_is = came_behind cfg lane vars came_ asks to_server h read h.sends.sends.bytes;
       goes = goes_whole cfg lane vars came_ asks to_server h is (promise h.past h.sends) e (has h.past h.sends e) read h.sends.sends.bytes;
     }
-whole_at place.Idle cfg lane line awaits rests vars came_ asks to_server reply e h is promise has = absurd (cc)
-whole_at place.Replied cfg lane line awaits rests vars came_ asks to_server reply e h is promise has = absurd (cc)
+whole_at place.Idle cfg lane line awaits rests untouched vars came_ asks to_server reply e h is promise has = absurd (cc)
+whole_at place.Replied cfg lane line awaits rests untouched vars came_ asks to_server reply e h is promise has = absurd (cc)
 
 pub replied_at : (at : Place) (cfg : Config) (lane : LaneState) (vars : Variables) (came_ : Coming) (asks : Asking Variables) (to_server : List ℕ) (reply : Reply Variables) → at ≡ place.Replied
     → StandsAt at cfg lane vars came_ asks to_server reply → IsReplied cfg vars came_ reply (coming lane lane.input.items)

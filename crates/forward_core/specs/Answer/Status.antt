@@ -1,6 +1,6 @@
 -- The status of what a client is sent.
-use Rattle.std.specs.Prelude.{◌≡◌, ℕ, List, Bool, true, false, Option, Some, None}
-use Rattle.http_model.specs.Head.{Head, StartLine, RequestLine, StatusLine}
+use Rattle.std.specs.Prelude.{◌≡◌, ℕ, Bool, true, false, Option, Some, None}
+use Rattle.http_model.specs.Head.{StartLine, RequestLine, StatusLine}
 use Rattle.htx_view.specs.Lines.{status_number}
 use Rattle.lane.specs.Answering.{Exchange, Last, NotYet, Serves, Replies, phase_of, shows_last}
 use Rattle.lane.specs.declared.response_lane.ResponseLane.{ResponseLane}

@@ -1,5 +1,5 @@
 -- Whether a refusal or a reply that goes out has begun.
-use Rattle.std.specs.Prelude.{◌≡◌, Bool, true, false, nat_lt, length}
+use Rattle.std.specs.Prelude.{◌≡◌, true, false, nat_lt, length}
 use Rattle.std.proofs.Common.{subst}
 use Rattle.http_rules.specs.declared.config.Config.{Config}
 use Rattle.http_rules.specs.Lives.{answering}

@@ -1,5 +1,5 @@
 -- The status that a core tells.
-use Rattle.std.specs.Prelude.{◌≡◌, ℕ, List, Option, None, true}
+use Rattle.std.specs.Prelude.{◌≡◌, ℕ, Option, None}
 use Rattle.std.proofs.Common.{subst, ap, sym}
 use Rattle.http_rules.specs.declared.config.Config.{Config}
 use Rattle.http_rules.specs.Lives.{answering}

@@ -1,9 +1,9 @@
 -- The request line that a core tells.
-use Rattle.std.specs.Prelude.{◌≡◌, ◌≢◌, ◌⊎◌, ℕ, List}
+use Rattle.std.specs.Prelude.{◌≡◌, ◌≢◌, ℕ, List}
 use Rattle.std.proofs.Common.{subst, inl, inr}
 use Rattle.http_rules.specs.declared.config.Config.{Config}
 use Rattle.session_core.specs.History.{Coming}
-use Rattle.session_core.specs.Lines.{HasLine, IsLineOf, ShowsLine, LineAt}
+use Rattle.session_core.specs.Lines.{IsLineOf, ShowsLine, LineAt}
 use Rattle.session_core.specs.Place.{Place}
 use Rattle.session_core.specs.Place as at
 use Rattle.session_core.specs.Sided.{Sided}

@@ -1,5 +1,5 @@
 -- The variables with which a session begins: the address and the port of its client, where a peer is told.
-use Rattle.std.specs.Prelude.{ℕ, Option, Some, None, pos}
+use Rattle.std.specs.Prelude.{Option, Some, None, pos}
 use Rattle.px_peer.specs.declared.Peer.{Peer}
 use Rattle.px_peer.specs.Names.{src_name, src_port_name}
 use Rattle.px_proxyproto.specs.Texts.{address_text}

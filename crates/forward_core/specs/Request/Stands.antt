@@ -126,6 +126,10 @@ TellsLine place.Sending cfg came line = HasLine (meaning_of cfg) came line
 TellsLine place.Idle cfg came line = ShowsLine (meaning_of cfg) came line
 TellsLine place.Replied cfg came line = HasLine (meaning_of cfg) came line
 
+-- in front of a head: where no byte has come since the exchange before, none has
+abbrev pub IsUntouchedAt : Place → (untouched : Bool) → Coming → Type 0
+IsUntouchedAt at untouched came = at ≡ place.Reading → untouched ≡ true → came.bytes ≡ []
+
 -- The request direction of this configuration stands for this past: the variables in front of the exchange, the client's stream
 -- from there on, the request that goes to a server and its text so far, and the reply of its rules.
 pub record RequestStands (cfg : Config) (side : RequestSide) (vars : Variables) (came : Coming) (asking : Asking Variables) (to_server : List ℕ) (reply : Reply Variables) : Type 0 where
@@ -134,6 +138,7 @@ pub record RequestStands (cfg : Config) (side : RequestSide) (vars : Variables) 
   -- what came has ended as the lane's stream has
   pub ending : came.ending ≡ side.lane.ended
   pub line : TellsLine side.place cfg came side.line.bytes
+  pub untouched : IsUntouchedAt side.place side.untouched came
 
 -- ---- from one side to another
 

@@ -5,6 +5,8 @@ use Rattle.http_model.specs.Head.{Message, head_blocks, front_blocks, message_bl
 use Rattle.session_model.specs.Env.{Amended, Edited, Plain}
 use Rattle.session_model.specs.Amending.{reply_sent, behind_reply}
 use Rattle.forward_core.specs.Meaning.Product.{meaning_of}
+use Rattle.forward_core.specs.Meaning.Beginning.{beginning}
+use Rattle.forward_core.specs.Rules.Steady.{IsSteady, IsClear}
 use Rattle.px_sample.specs.Variables.{Variables}
 use Rattle.http_rules.specs.Rule.Actions.{rules_hold_pattern}
 use Rattle.http_rules.specs.Action.Outcome.{IsScratch}
@@ -27,6 +29,10 @@ pub record IsReady (rules : SessionRules) : Type 0 where
   pub valid : IsValid (config_of rules)
   pub scratch : IsScratch (size_of rules) rules.scratch
   pub said : rules.said.size ≡ size_of rules
+  pub steady : rules.steady ≡ true → IsSteady (config_of rules)
+  -- the variables of the session are those with which it began, and others are there at most where rules ran since
+  pub begun : rules.begun ≡ true → rules.vars.sess ≡ (beginning rules.peer).sess
+  pub clear : rules.clear ≡ true → IsClear rules.vars
 
 -- some rule has a pattern, so running it takes memory
 abbrev pub holds_pattern : Config → Bool

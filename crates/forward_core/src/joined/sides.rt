@@ -73,6 +73,10 @@ impl<'c> Works for Directions<'c> {
         self.answer.has_heard()
     }
 
+    fn is_untouched(&self) -> bool {
+        self.request.is_untouched() && self.rules.is_as_begun()
+    }
+
     fn status(&self) -> Option<u16> {
         self.answer.status()
     }

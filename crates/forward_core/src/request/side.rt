@@ -36,6 +36,8 @@ pub struct RequestSide {
     awaits: bool,
     /// The last step left nothing undone that could be done with what has come.
     at_rest: bool,
+    /// No byte has come since the exchange before.
+    untouched: bool,
 }
 
 impl Drop for RequestSide {
@@ -46,6 +48,7 @@ impl Drop for RequestSide {
             line: _,
             awaits: _,
             at_rest: _,
+            untouched: _,
         } = self;
     }
 }
@@ -87,6 +90,7 @@ impl RequestSide {
             line,
             awaits: false,
             at_rest: false,
+            untouched: true,
         })
     }
 
@@ -104,6 +108,7 @@ impl RequestSide {
     {
         self.lane.push(bytes);
         self.at_rest = false;
+        self.untouched = false;
     }
 
     /// The client's stream ends.
@@ -290,6 +295,7 @@ impl RequestSide {
         ensures limits { limits_of self.new ≡ limits_of self.old }
         ensures window_size { window_size_of self.new ≡ window_size_of self.old }
     {
+        self.untouched = self.lane.input_len() == 0;
         self.lane.next();
         self.lane.clear_output();
         self.line.clear();
@@ -315,5 +321,6 @@ impl RequestSide {
         self.place = Place::Reading;
         self.awaits = false;
         self.at_rest = false;
+        self.untouched = true;
     }
 }

@@ -8,8 +8,10 @@ ghost use Rattle.http_rules.specs.Run.{IsHead, Leaves};
 ghost use Rattle.http_rules.specs.Valid.{IsValid};
 ghost use Rattle.forward_core.specs.Meaning.Product.{meaning_of};
 ghost use Rattle.forward_core.specs.Meaning.Beginning.{beginning};
+ghost use Rattle.forward_core.specs.Rules.Steady.{IsSteady};
 
 use crate::rules::beginning::begin_with;
+use crate::rules::steady::is_steady;
 use http_model::OutOfMemory;
 use http_rules::{
     Config, Scratch, Vars, Verdict, begin_answer, begin_exchange, body_stays, run_after,
@@ -30,6 +32,12 @@ pub struct SessionRules<'c> {
     /// Whose session it is.
     peer: Option<Peer>,
     scratch: Scratch,
+    /// No rule sets a variable of the session, or takes one out.
+    steady: bool,
+    /// The variables of the session are those with which it began. It may be false where they are.
+    begun: bool,
+    /// No other variables are there. It may be false where none are.
+    clear: bool,
 }
 
 impl Drop for SessionRules<'_> {
@@ -40,6 +48,9 @@ impl Drop for SessionRules<'_> {
             config: _,
             peer: _,
             scratch: _,
+            steady: _,
+            begun: _,
+            clear: _,
         } = self;
     }
 }
@@ -82,6 +93,9 @@ impl<'c> SessionRules<'c> {
             vars,
             config,
             peer: config.peer,
+            steady: is_steady(config),
+            begun: true,
+            clear: true,
         })
     }
 
@@ -98,10 +112,13 @@ impl<'c> SessionRules<'c> {
         ensures empty { text.new.bytes ≡ [] }
         ensures cap { text.new.cap ≡ text.old.cap }
     {
+        self.begun = false;
         self.peer = peer;
         self.begin_exchange();
         self.vars.clear(Scope::Sess);
         begin_with(&mut self.vars, peer, text);
+        self.begun = true;
+        self.clear = true;
         self.said.clear();
     }
 
@@ -119,6 +136,14 @@ impl<'c> SessionRules<'c> {
         self.config
     }
 
+    /// Whether the variables are those with which the session began. It may answer false where they are.
+    pub fn is_as_begun(&self) -> bool
+        requires ready { IsReady self.now }
+        ensures begun { result ≡ true → self.now.vars ≡ beginning (config_of self.now).peer }
+    {
+        self.begun && self.clear
+    }
+
     /// Before the rules of a request: the variables of the session go on, the others are gone.
     pub fn begin_exchange(&mut self)
         ensures vars { self.new.vars ≡ renewed self.old.vars }
@@ -127,6 +152,7 @@ impl<'c> SessionRules<'c> {
         ensures ready { IsReady self.old → IsReady self.new }
     {
         begin_exchange(&mut self.vars);
+        self.clear = true;
     }
 
     /// Before the first rules on an answer, a reply or a refusal: the variables of the request's rules are gone.
@@ -137,6 +163,15 @@ impl<'c> SessionRules<'c> {
         ensures ready { IsReady self.old → IsReady self.new }
     {
         begin_answer(&mut self.vars);
+    }
+
+    /// Whether rules leave the variables of the session as they began.
+    fn stays(&self) -> bool
+        requires ready { IsReady self.now }
+        ensures steady { result ≡ true → IsSteady (config_of self.now) }
+        ensures begun { result ≡ true → self.now.vars.sess ≡ (beginning (config_of self.now).peer).sess }
+    {
+        self.steady && self.begun
     }
 
     /// Runs the rules of requests on a head. A reply of theirs is what is said, without a field that speaks of the connection.
@@ -152,13 +187,18 @@ impl<'c> SessionRules<'c> {
     {
         self.said.clear();
         let config = self.config;
-        run_request(
+        let stays = self.stays();
+        self.begun = false;
+        self.clear = false;
+        let verdict = run_request(
             &config.request,
             msg,
             &mut self.vars,
             &mut self.scratch,
             &mut self.said,
-        )
+        )?;
+        self.begun = stays;
+        Ok(verdict)
     }
 
     /// Runs the rules of responses on a head, which answers a request of this method. As `on_request`.
@@ -174,14 +214,19 @@ impl<'c> SessionRules<'c> {
     {
         self.said.clear();
         let config = self.config;
-        run_response(
+        let stays = self.stays();
+        self.begun = false;
+        self.clear = false;
+        let verdict = run_response(
             &config.response,
             method,
             msg,
             &mut self.vars,
             &mut self.scratch,
             &mut self.said,
-        )
+        )?;
+        self.begun = stays;
+        Ok(verdict)
     }
 
     /// Runs the rules on all that the client is sent on a server's head; false where a rule fails.
@@ -198,6 +243,9 @@ impl<'c> SessionRules<'c> {
     {
         body_stays();
         let config = self.config;
+        let stays = self.stays();
+        self.begun = false;
+        self.clear = false;
         let verdict = run_after(
             &config.after,
             method,
@@ -205,6 +253,7 @@ impl<'c> SessionRules<'c> {
             &mut self.vars,
             &mut self.scratch,
         )?;
+        self.begun = stays;
         Ok(passed(verdict))
     }
 
@@ -219,6 +268,9 @@ impl<'c> SessionRules<'c> {
     {
         body_stays();
         let config = self.config;
+        let stays = self.stays();
+        self.begun = false;
+        self.clear = false;
         let verdict = run_after(
             &config.after,
             method,
@@ -226,6 +278,7 @@ impl<'c> SessionRules<'c> {
             &mut self.vars,
             &mut self.scratch,
         )?;
+        self.begun = stays;
         Ok(passed(verdict))
     }
 }

@@ -1,9 +1,15 @@
 //! What is seen of the request direction.
-ghost use Rattle.std.specs.Prelude.{◌≡◌, not};
+ghost use Rattle.std.specs.Prelude.{◌≡◌, ℕ, List, true, not};
 ghost use Rattle.session_core.specs.Sided.{HoldsList};
 ghost use Rattle.session_core.specs.Waits.{is_empty};
 ghost use Rattle.forward_core.specs.Request.Seen.{seen, place_of, is_open, room_of, window_of, array_of, line_of};
 ghost use Rattle.forward_core.specs.Request.Edits.{framing_of, declared_of, close_of};
+ghost use Rattle.forward_core.specs.Request.Stands.{RequestStands};
+ghost use Rattle.forward_core.specs.declared.request.place.Place.TheVariants as place;
+ghost use Rattle.px_sample.specs.Variables.{Variables};
+ghost use Rattle.http_rules.specs.declared.config.Config.{Config};
+ghost use Rattle.session_core.specs.History.{Coming, no_stream};
+ghost use Rattle.session_core.specs.Sided.{Asking, Reply};
 
 use crate::request::place::Place;
 use crate::request::side::RequestSide;
@@ -121,6 +127,15 @@ impl RequestSide {
         ensures { result ≡ is_open self.now }
     {
         self.lane.is_open()
+    }
+
+    /// Whether nothing of the client's stream has come since the exchange before.
+    pub fn is_untouched(&self) -> bool
+        requires reading { place_of self.now ≡ place.Reading }
+        ensures untouched { result ≡ true → (cfg : Config) (vars : Variables) (came : Coming) (asking : Asking Variables) (to_server : List ℕ) (reply : Reply Variables)
+            → RequestStands cfg self.now vars came asking to_server reply → came ≡ no_stream }
+    {
+        self.untouched && self.lane.is_open()
     }
 
     /// The bytes that wait for the server.

@@ -1,6 +1,5 @@
 use Rattle.forward_core.proofs.AnswerLemmas.Listed.{listed_blocks, listed_spells, closing_listed, refusal_listed, reply_listed}
 use Rattle.http_model.specs.Refusal.{refusal}
-use Rattle.forward_core.specs.Meaning.Product.{meaning_of}
 use Rattle.forward_core.proofs.answer.laws.lists.Goals as goal
 
 pub returns-clause-blocks : goal.returns-clause-blocks

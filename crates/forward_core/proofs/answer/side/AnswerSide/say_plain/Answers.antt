@@ -25,4 +25,4 @@ returns-clause-leads c = λ cfg asking server put saying s is.
 pub returns-clause-ready : goal.returns-clause-ready
 returns-clause-ready c =
     let r = c.say_plain.ensures.ready in
-    record { valid = r.valid; scratch = r.scratch; said = c.say_instead.ensures.said_size ∙ ap (λ (x : Contents). x.size) c.arena.ensures.value ∙ r.said }
+    record { valid = r.valid; scratch = r.scratch; said = c.say_instead.ensures.said_size ∙ ap (λ (x : Contents). x.size) c.arena.ensures.value ∙ r.said; steady = r.steady; begun = r.begun; clear = r.clear }

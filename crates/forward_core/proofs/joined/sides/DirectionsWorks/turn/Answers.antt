@@ -23,7 +23,7 @@ returns-clause-placed c =
     let ready = c.say_closing.ensures.ready in
     record {
       is_at = record {
-        sound = sound_both d a rules e.sound e.size (record { valid = ready.valid; scratch = ready.scratch; said = e.list_size ∙ ap (λ (x : Contents). x.size) c.arena-said.ensures.value ∙ ready.said }) c.say_closing.ensures.config x.is_at.sound;
+        sound = sound_both d a rules e.sound e.size (record { valid = ready.valid; scratch = ready.scratch; said = e.list_size ∙ ap (λ (x : Contents). x.size) c.arena-said.ensures.value ∙ ready.said; steady = ready.steady; begun = ready.begun; clear = ready.clear }) c.say_closing.ensures.config x.is_at.sound;
         stand = (begun_sending (requests.place_of d.request) x.is_at.stand.0, e.place);
       };
       past = (x.past.0, record p { saying = said }, turns x.past.0 d a rules p said x.is_at.stand.0 e.place c.say_closing.ensures.config x.past.2 t.stands);

@@ -34,4 +34,5 @@ returns-clause-leads c = λ cfg vars came asking to_server reply h.
       at = ended c.args.self.now.place cfg c.args.self.now.lane c.end.new.self c.args.how vars came asking to_server reply t h.at;
       ending = sym t.ended;
       line = line_stays c.args.self.now.place cfg came c.args.how c.args.self.now.line.bytes (h.ending ∙ t.open_) h.line;
+      untouched = h.untouched;
     }

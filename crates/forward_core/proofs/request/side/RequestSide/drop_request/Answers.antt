@@ -26,6 +26,7 @@ returns-clause-leads c = λ cfg vars came asking to_server put reply h is.
           (λ p s. c.promise.ensures c.args.self.now.lane p s) is h.at;
       ending = h.ending ∙ sym e.ended;
       line = h.line;
+      untouched = h.untouched;
     }
 
 pub returns-clause-seen : goal.returns-clause-seen
@@ -33,4 +34,4 @@ returns-clause-seen c =
     let e = c.discard.ensures in
     let old = c.args.self.now.lane in
     let new = c.discard.new.self in
-    seen_dropped old new c.args.self.now.place c.args.self.now.line c.args.self.now.awaits c.args.self.now.at_rest false c.requires.sound.well (e.sound c.requires.sound.well) e.limits (ap (λ (b : Buffer ℕ). b.items) e.input) e.ended e.output e.source e.stage e.dropped e.blocks
+    seen_dropped old new c.args.self.now.place c.args.self.now.line c.args.self.now.awaits c.args.self.now.untouched c.args.self.now.at_rest false c.requires.sound.well (e.sound c.requires.sound.well) e.limits (ap (λ (b : Buffer ℕ). b.items) e.input) e.ended e.output e.source e.stage e.dropped e.blocks

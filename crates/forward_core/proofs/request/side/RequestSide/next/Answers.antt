@@ -1,4 +1,4 @@
-use Rattle.std.proofs.Common.{ℕ, ◌++◌, ap, sym, ◌∙◌}
+use Rattle.std.proofs.Common.{ℕ, ◌++◌, ap, sym, ◌∙◌, rules}
 use Rattle.http_model.specs.declared.Limits.{Limits}
 use Rattle.wire_buf.specs.Buffer.{Buffer}
 use Rattle.h1_head.specs.Stream.{behind}
@@ -7,6 +7,7 @@ use Rattle.lane.specs.Direction.State.{LaneState}
 use Rattle.forward_core.specs.declared.request.place.Place.TheVariants as place
 use Rattle.forward_core.proofs.RequestLemmas.Events.{for_same, same_by}
 use Rattle.forward_core.proofs.RequestLemmas.Resting.{unrested}
+use Rattle.forward_core.proofs.RequestLemmas.Untouched.{none_there}
 use Rattle.forward_core.proofs.request.side.RequestSide.next.Goals as goal
 
 pub returns-clause-sound : goal.returns-clause-sound
@@ -25,4 +26,5 @@ returns-clause-leads c = λ cfg vars next came asking now to_server text reply o
       at = record { ending = sym (ap (λ (l : LaneState). l.ended) same ∙ c.next.ensures.ended); lines = λ more. ap (λ (b : Buffer ℕ). behind (b.items ++ more)) (sym input) };
       ending = sym (ap (λ (l : LaneState). l.ended) same ∙ c.next.ensures.ended);
       line = c.clear.ensures.bytes;
+      untouched = λ at is. none_there old.input.items (search (rules, c.input_len.ensures, is));
     }

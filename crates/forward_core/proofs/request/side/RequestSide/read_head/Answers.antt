@@ -15,6 +15,7 @@ use Rattle.forward_core.proofs.RequestLemmas.Events.{for_same, same_by}
 use Rattle.forward_core.proofs.RequestLemmas.Reading.{at_reading, on_reading, still_reading, nothing_out, each_nothing, asks_reading, shows_none, head_read, reads_on, some_room, refuses_bytes, head_uses}
 use Rattle.forward_core.proofs.RequestLemmas.Lines.{none_reading, words_head, line_room}
 use Rattle.forward_core.proofs.RequestLemmas.Resting.{more_rests}
+use Rattle.forward_core.proofs.RequestLemmas.Untouched.{behind_none}
 use Rattle.forward_core.proofs.request.side.RequestSide.read_head.Goals as goal
 
 pub returns-then-is_waiting-clause-tells : goal.returns-then-is_waiting-clause-tells
@@ -55,6 +56,7 @@ returns-in-More-clause-tells c =
         at = on_reading c.args.self.now.place cfg new vars came asking to_server reply c.requires.place (reads_on old new came e.ended e.tells (at_reading c.args.self.now.place cfg old vars came asking to_server reply c.requires.place h.at));
         ending = h.ending ∙ sym e.ended;
         line = h.line;
+        untouched = h.untouched;
       };
     }
 
@@ -74,6 +76,7 @@ returns-in-Nothing-clause-tells c =
         at = tt;
         ending = h.ending ∙ sym e.ended;
         line = shows_none cfg old came Nothing c.args.self.now.line.bytes h.is_for (at_reading c.args.self.now.place cfg old vars came asking to_server reply c.requires.place h.at) (each_nothing old new e.tells) tt (none_reading c.args.self.now.place cfg came c.args.self.now.line.bytes c.requires.place h.line);
+        untouched = behind_none came c.args.self.now.untouched;
       };
       asks = λ cfg vars came asking to_server reply h stream on.
           asks_reading cfg old vars came Nothing h.is_for (at_reading c.args.self.now.place cfg old vars came asking to_server reply c.requires.place h.at) (each_nothing old new e.tells) stream on;
@@ -88,7 +91,7 @@ pub returns-in-Head-clause-sound : goal.returns-in-Head-clause-sound
 returns-in-Head-clause-sound c =
     let s = c.args.self.now in
     let e = c.in-Head.ensures in
-    let with_lane : LaneState → RequestSide = λ l. record { lane = l; place = place.Idle; line = c.keep_line.new.line; awaits = s.awaits; at_rest = false } in
+    let with_lane : LaneState → RequestSide = λ l. record { lane = l; place = place.Idle; line = c.keep_line.new.line; awaits = s.awaits; at_rest = false; untouched = s.untouched } in
     let sound : IsSound (with_lane c.read_head.new.self) = record {
       well = e.tells.ready.sound;
       at = ap (λ (b : Buffer ℕ). b.items) e.output ∙ nothing_out s.place s.lane c.requires.place c.requires.sound.at;
@@ -104,7 +107,7 @@ returns-in-Head-clause-tells c =
     let old = s.lane in
     let new = c.read_head.new.self in
     let line = c.keep_line.new.line in
-    let with_lane : LaneState → RequestSide = λ l. record { lane = l; place = place.Idle; line = line; awaits = s.awaits; at_rest = false } in
+    let with_lane : LaneState → RequestSide = λ l. record { lane = l; place = place.Idle; line = line; awaits = s.awaits; at_rest = false; untouched = s.untouched } in
     let comes : HeadComes s (with_lane new) = record {
       place = refl;
       received = record { head = e.tells.head; framing = new.framing; declared = new.declared; close = new.close };
@@ -133,6 +136,7 @@ returns-in-Refuse-clause-tells c =
         at = tt;
         ending = h.ending ∙ sym e.ended;
         line = shows_none cfg old came (Refused c.in-Refuse.code) c.args.self.now.line.bytes h.is_for (at_reading c.args.self.now.place cfg old vars came asking to_server reply c.requires.place h.at) e.tells.refused tt (none_reading c.args.self.now.place cfg came c.args.self.now.line.bytes c.requires.place h.line);
+        untouched = behind_none came c.args.self.now.untouched;
       };
       asks = λ cfg vars came asking to_server reply h stream on.
           asks_reading cfg old vars came (Refused c.in-Refuse.code) h.is_for (at_reading c.args.self.now.place cfg old vars came asking to_server reply c.requires.place h.at) e.tells.refused stream on;

@@ -1,4 +1,4 @@
-use Rattle.std.proofs.Common.{ℕ, List, ◌++◌, ap, sym, ◌∙◌}
+use Rattle.std.proofs.Common.{ℕ, List, ◌++◌, ap, sym, ◌∙◌, refl}
 use Rattle.http_model.specs.declared.Limits.{Limits}
 use Rattle.h1_head.specs.Stream.{behind}
 use Rattle.h1_head.specs.declared.answer.Side.TheVariants as side
@@ -24,4 +24,5 @@ returns-clause-stands c = λ cfg before came asked sent replied h vars asking to
       at = record { ending = sym (ap (λ (l : LaneState). l.ended) same ∙ c.new_stream.ensures.ended); lines = λ more. ap (λ (bs : List ℕ). behind (bs ++ more)) (sym input) };
       ending = sym (ap (λ (l : LaneState). l.ended) same ∙ c.new_stream.ensures.ended);
       line = c.clear.ensures.bytes;
+      untouched = λ at is. refl;
     }

@@ -3,6 +3,7 @@ use Rattle.forward_core.specs.declared.request.place.Place.{Place}
 use Rattle.session_core.specs.History.{Coming}
 use Rattle.forward_core.specs.Request.Stands.{SoundAt, coming}
 use Rattle.forward_core.proofs.RequestLemmas.Sending.{replies_to}
+use Rattle.forward_core.proofs.RequestLemmas.Untouched.{behind_reply}
 use Rattle.forward_core.proofs.request.side.RequestSide.reply.Goals as goal
 
 pub returns-clause-sound : goal.returns-clause-sound
@@ -14,4 +15,5 @@ returns-clause-leads c = λ cfg vars came received m left asking to_server h rul
   at = replies_to cfg vars came (coming c.args.self.now.lane c.args.self.now.lane.input.items) received m left h.used h.head rules;
   ending = ap (λ (x : Coming). x.ending) h.head.came_is;
   line = h.line;
+  untouched = behind_reply came c.args.self.now.untouched;
 }

@@ -8,6 +8,7 @@ use Rattle.forward_core.specs.Request.Stands.{SoundAt}
 use Rattle.forward_core.proofs.RequestLemmas.Events.{for_same}
 use Rattle.forward_core.proofs.RequestLemmas.Sending.{IsBegun, sends_sound, sends_on}
 use Rattle.forward_core.proofs.RequestLemmas.Resting.{unrested}
+use Rattle.forward_core.proofs.RequestLemmas.Untouched.{behind_head}
 use Rattle.forward_core.proofs.request.side.RequestSide.send.Goals as goal
 
 pub returns-clause-sound : goal.returns-clause-sound
@@ -41,4 +42,5 @@ returns-clause-leads c = λ cfg vars came received env reply h framing rules sho
       at = sends_on cfg old c.send.new.self c.args.framing vars came received env h.used b h.is_for none h.head framing rules short fits framed blocks;
       ending = ap (λ (x : Coming). x.ending) h.head.came_is ∙ sym e.ended;
       line = h.line;
+      untouched = behind_head came c.args.self.now.untouched;
     }

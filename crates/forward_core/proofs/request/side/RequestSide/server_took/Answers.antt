@@ -26,4 +26,5 @@ returns-clause-leads c = λ cfg vars came asking to_server reply h.
       at = server_takes c.args.self.now.place cfg c.args.self.now.lane c.took.new.self c.args.n vars came asking to_server reply k c.requires.sound.at (ap (λ (l : LaneState). l.input.items) e.same) e.output (ap (λ (l : LaneState). l.dropped) e.same) e.stands h.at;
       ending = h.ending ∙ sym k.ended;
       line = h.line;
+      untouched = h.untouched;
     }

@@ -17,13 +17,13 @@ returns-then-not-is_going_out-clause-sound c =
 pub returns-then-not-is_going_out-clause-puts : goal.returns-then-not-is_going_out-clause-puts
 returns-then-not-is_going_out-clause-puts c =
     let s = c.args.self.now in
-    nothing_put s.place s.line s.awaits s.at_rest true s.lane
+    nothing_put s.place s.line s.awaits s.untouched s.at_rest true s.lane
 
 pub returns-then-not-is_going_out-clause-keeps : goal.returns-then-not-is_going_out-clause-keeps
 returns-then-not-is_going_out-clause-keeps c =
     let s = c.args.self.now in
     let over = c.is_going_out.ensures.rests c.if-not-is_going_out.true in
-    rest_keeps s.place s.line s.awaits s.at_rest s.lane over c.requires.sound.at
+    rest_keeps s.place s.line s.awaits s.untouched s.at_rest s.lane over c.requires.sound.at
 
 -- ---- a step of the lane
 
@@ -59,9 +59,10 @@ returns c =
           at = step_stands c.args.self.now.place cfg old new vars came asking to_server e.grows.0 reply sending t e.grows.1 h.at;
           ending = h.ending ∙ sym e.ended;
           line = h.line;
+          untouched = h.untouched;
         };
       };
-      keeps = step_keeps c.args.self.now.place c.args.self.now.line c.args.self.now.awaits c.args.self.now.at_rest old new sending t c.requires.sound.at;
+      keeps = step_keeps c.args.self.now.place c.args.self.now.line c.args.self.now.awaits c.args.self.now.untouched c.args.self.now.at_rest old new sending t c.requires.sound.at;
       place = refl;
       limits = e.limits;
       window_size = e.window;
