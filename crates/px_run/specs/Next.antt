@@ -24,13 +24,14 @@ abbrev pub at_close : Option Close → Option Next
 at_close None = None
 at_close (Some how) = Some (next.Close how)
 
--- The reads and writes, each where it is wanted and answered at once. The bytes of a server are read before those of its client: a client that waits for a
--- response head (RFC 9110 section 10.1.1) is read as soon as it gives something and its server doesn't.
+-- The reads and writes, each where it is wanted and answered at once. A server is read before its client is written to, so that what it gives in several reads
+-- goes out by one write; and before its client is read: a client that waits for a response head (RFC 9110 section 10.1.1) is read as soon as it gives something
+-- and its server doesn't.
 abbrev pub moves_of : Wants → Ready → List (Option Next)
 moves_of wants ready =
     when (wants.server_write && ready.server_write) (next.Move (turns.ServerTakes unbounded))
-    ∷ when (wants.client_write && ready.client_write) (next.Move (turns.ClientTakes unbounded))
     ∷ when (wants.server_read && ready.server_read) (next.Move (turns.ServerGives unbounded))
+    ∷ when (wants.client_write && ready.client_write) (next.Move (turns.ClientTakes unbounded))
     ∷ when (wants.client_read && ready.client_read) (next.Move (turns.ClientGives unbounded))
     ∷ []
 
@@ -73,7 +74,7 @@ IsAllowed wants ready next.Wait = ⊤
 -- a read or write is wanted and answered at once
 abbrev pub may_move : Wants → Ready → Bool
 may_move wants ready =
-    (wants.server_write && ready.server_write) || (wants.client_write && ready.client_write) || (wants.server_read && ready.server_read) || (wants.client_read && ready.client_read)
+    (wants.server_write && ready.server_write) || (wants.server_read && ready.server_read) || (wants.client_write && ready.client_write) || (wants.client_read && ready.client_read)
 
 -- something can be done now
 abbrev pub may_act : Wants → Ready → Bool

@@ -110,8 +110,44 @@ impl Agenda {
             return;
         }
         self.paces[place].rests(times);
-        let until = self.paces[place].until;
+        let until = sooner(self.paces[place].until, self.paces[place].gives_at);
         self.next = sooner(self.next, until);
+    }
+
+    /// The connection at this place is looked at next, where its core is to be asked now whether it rests.
+    pub fn asks_for_rest(&mut self, place: usize, now: u64) -> Result<(), OutOfMemory> {
+        if place >= self.paces.len() {
+            return Ok(());
+        }
+        match self.paces[place].gives_at {
+            Some(at) => {
+                if at > now {
+                    self.next = sooner(self.next, Some(at));
+                    return Ok(());
+                }
+                self.paces[place].gives_at = None;
+                self.call_next(place)
+            }
+            None => Ok(()),
+        }
+    }
+
+    /// Of those that keep their cores behind an answer, the one that has done so longest is looked at next.
+    pub fn call_lingering(&mut self) -> Result<(), OutOfMemory> {
+        let mut found = None;
+        let mut since = u64::MAX;
+        for place in 0..self.paces.len() {
+            if let Some(at) = self.paces[place].lingers_since() {
+                if at < since {
+                    since = at;
+                    found = Some(place);
+                }
+            }
+        }
+        match found {
+            Some(place) => self.asks_for_rest(place, u64::MAX),
+            None => Ok(()),
+        }
     }
 
     /// The connection at this place goes on once a core is free.
@@ -225,12 +261,24 @@ impl Agenda {
         false
     }
 
-    /// The place of the kept connection that has rested longest.
-    pub fn longest_rested(&self) -> Option<usize> {
+    /// The place of a kept connection that is ended for others: where one waits for a core, of those that have one; where a link may wait to be accepted and no
+    /// place is left, of those that have none.
+    pub fn gives_way(&mut self) -> Option<usize> {
+        if self.lacks_cores() {
+            return self.longest_rested(true);
+        }
+        if self.may_accept && !self.has_place() {
+            return self.longest_rested(false);
+        }
+        None
+    }
+
+    /// The place of the kept connection that has rested longest, with a core or without.
+    fn longest_rested(&self, has_core: bool) -> Option<usize> {
         let mut found = None;
         let mut since = u64::MAX;
         for place in 0..self.paces.len() {
-            if let Some(rested) = self.paces[place].rested_since() {
+            if let Some(rested) = self.paces[place].rested_since(has_core) {
                 if rested < since {
                     since = rested;
                     found = Some(place);

@@ -10,7 +10,6 @@ ghost use Rattle.htx_drive.specs.declared.SessionFault.{SessionFault};
 ghost use Rattle.px_run.specs.Connection.{LookedSo, IsIdle, AllFreshFor, IsAtUnder};
 ghost use Rattle.px_run.specs.Callers.{pair_of};
 ghost use Rattle.px_run.specs.Log.{Logs};
-ghost use Rattle.px_run.specs.declared.held.Held.TheVariants as helds;
 
 use crate::boxed_core::BoxedCore;
 use crate::caller::{Caller, pair_of};
@@ -182,11 +181,12 @@ fn free<C: ResetsFor + Drop>(core: &mut Held<C>, instead: Held<C>, sets: &mut Ve
     }
 }
 
-/// A connection waits, with its core. Where that rests between two requests it gives it back, and keeps the count of its exchanges alone.
+/// A connection waits, with its core. Where that is asked now and rests between two requests it gives it back, and keeps the count of its exchanges alone.
 fn rest<C: ResetsFor + Drop, L: Waits, N: WaitsNet<Link = L>>(
     connection: &mut Connection<C, L, N>,
     sets: &mut Vec<BoxedCore<C>>,
     pace: &mut Pace,
+    now: u64,
 ) -> Looked
     requires may { HasCore connection.old.core (λ core. MayStep C.seen C.sound core connection.old.conn.server (N.seen connection.old.conn.net) connection.old.conn.ran) }
     requires ready { AllByRecursion (IsReady C.seen C.sound) sets.old.items }
@@ -200,6 +200,9 @@ fn rest<C: ResetsFor + Drop, L: Waits, N: WaitsNet<Link = L>>(
     ensures number { connection.new.number ≡ connection.old.number }
     ensures caller { connection.new.caller ≡ connection.old.caller }
 {
+    if !pace.asks_for_rest(now, sets.is_empty()) {
+        return Looked::Waits;
+    }
     let Some(exchanges) = rests_with(&mut connection.core) else {
         return Looked::Waits;
     };
@@ -233,7 +236,7 @@ pub(crate) fn moved<C: ResetsFor + Drop, L: Waits, N: WaitsNet<Link = L>, W: Wak
     match go(connection, pace, wakes, to, tools) {
         Stepped::Moved => Looked::GoesOn,
         Stepped::Opened => Looked::GoesOn,
-        Stepped::Waits => rest(connection, sets, pace),
+        Stepped::Waits => rest(connection, sets, pace, tools.now),
         Stepped::Ended => {
             pace.ended(tools.now);
             free(&mut connection.core, Held::Nothing, sets);

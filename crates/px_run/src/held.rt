@@ -1,9 +1,8 @@
 //! What a connection has of a core.
-ghost use Rattle.std.specs.Prelude.{◌≡◌, Option, Some, None, true, false, IfSome};
+ghost use Rattle.std.specs.Prelude.{◌≡◌, Option, false, IfSome};
 ghost use Rattle.px_peer.specs.declared.Peer.{Peer};
 ghost use Rattle.session_core.specs.History.{Past};
 ghost use Rattle.px_run.specs.Course.{HasCore, has_core, TakesUp, RestsWith};
-ghost use Rattle.px_run.specs.declared.held.Held.TheVariants as helds;
 
 use crate::boxed_core::BoxedCore;
 use htx_drive::Machine;

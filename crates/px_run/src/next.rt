@@ -44,11 +44,11 @@ fn move_of(wants: &Wants, ready: &Ready) -> Next
     if wants.server_write && ready.server_write {
         return Next::Move(Turn::ServerTakes(u32::MAX));
     }
-    if wants.client_write && ready.client_write {
-        return Next::Move(Turn::ClientTakes(u32::MAX));
-    }
     if wants.server_read && ready.server_read {
         return Next::Move(Turn::ServerGives(u32::MAX));
+    }
+    if wants.client_write && ready.client_write {
+        return Next::Move(Turn::ClientTakes(u32::MAX));
     }
     if wants.client_read && ready.client_read {
         return Next::Move(Turn::ClientGives(u32::MAX));

@@ -8,6 +8,9 @@ use session_core::Wants;
 /// How long a client's link that was closed waits for the end of its peer, in milliseconds.
 const PATIENCE: u64 = 2000;
 
+/// How long a connection keeps its core behind an answer while others are free, in milliseconds: where its client asks again at once no core is made anew.
+const LINGER: u64 = 100;
+
 /// What a connection wants that has no core yet: the first bytes of its client, or the header in front of them. All of these have the time of the first head.
 const WAITING: Wants = Wants {
     client_read: true,
@@ -35,6 +38,10 @@ pub(crate) struct Pace {
     at_rest: bool,
     /// It waits for a core.
     pub hungry: bool,
+    /// When its core is asked whether it rests.
+    pub gives_at: Option<u64>,
+    /// Its core was asked since it did something last.
+    asked: bool,
     /// The time of its connect is over.
     pub connect_over: bool,
     /// The time of something that it waits for is over, and nothing was done since.
@@ -96,6 +103,8 @@ impl Pace {
             room: None,
             at_rest: false,
             hungry: false,
+            gives_at: None,
+            asked: false,
             connect_over: false,
             expired: false,
             until: deadline_of(&WAITING, Phase::First, times, &marks),
@@ -111,10 +120,20 @@ impl Pace {
         self.hungry = false;
     }
 
+    /// It waits, with a core. Whether that is asked now whether it rests: some time behind an answer, or at once where no core is free. It is asked once.
+    pub fn asks_for_rest(&mut self, now: u64, lacks: bool) -> bool {
+        if self.asked || !matches!(self.phase, Phase::Kept) {
+            return false;
+        }
+        self.asked = lacks || self.marks.answered.saturating_add(LINGER) <= now;
+        self.asked
+    }
+
     /// It rests, and gave its core back. What it wants and since when stays.
     pub fn gives_core(&mut self) {
         self.room = None;
         self.at_rest = true;
+        self.gives_at = None;
     }
 
     /// It wants a core, and none is free. Where it rested its client goes on: the time of a head begins.
@@ -150,10 +169,16 @@ impl Pace {
         self.wants.server_open
     }
 
-    /// Since when it rests between two requests, with a core: one that gave it back is not asked to end for another.
-    pub fn rested_since(&self) -> Option<u64> {
-        let rests = matches!(self.phase, Phase::Kept) && self.room.is_some() && !self.expired;
-        if rests {
+    /// Since when it rests between two requests, with a core or without.
+    pub fn rested_since(&self, has_core: bool) -> Option<u64> {
+        let so = if has_core {
+            self.room.is_some()
+        } else {
+            self.at_rest
+        };
+        // who has one that wasn't asked yet may give it back
+        let so = so && (self.asked || !has_core);
+        if so && matches!(self.phase, Phase::Kept) && !self.expired {
             Some(self.marks.answered)
         } else {
             None
@@ -165,6 +190,20 @@ impl Pace {
         let counts = self.room.is_some() || self.at_rest;
         if counts && !self.expired {
             self.until = deadline_of(&self.wants, self.phase, times, &self.marks);
+        }
+        let keeps = matches!(self.phase, Phase::Kept) && self.room.is_some();
+        self.gives_at = if keeps && !self.asked {
+            Some(self.marks.answered.saturating_add(LINGER))
+        } else {
+            None
+        };
+    }
+
+    /// Since when it keeps its core behind an answer, where that wasn't asked yet whether it rests.
+    pub fn lingers_since(&self) -> Option<u64> {
+        match self.gives_at {
+            Some(_) => Some(self.marks.answered),
+            None => None,
         }
     }
 
@@ -186,6 +225,7 @@ impl Pace {
     pub fn ended(&mut self, now: u64) {
         self.room = None;
         self.at_rest = false;
+        self.gives_at = None;
         self.expired = false;
         self.until = Some(now.saturating_add(PATIENCE));
     }
@@ -210,6 +250,7 @@ impl Pace {
 
     /// This read or write was made.
     fn moved(&mut self, turn: Turn, now: u64) {
+        self.asked = false;
         match turn {
             Turn::ClientGives(_) => self.marks.client_read = now,
             Turn::ClientTakes(_) => {

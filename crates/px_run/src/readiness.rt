@@ -67,7 +67,8 @@ fn cork<L: Waits>(link: &mut L, writes: bool, follows: bool)
     link.cork(writes, follows);
 }
 
-/// Which calls are answered at once, of those that are wanted.
+/// Which call is answered at once, of those that are wanted: they are asked one after another in the order in which they are made (`next_of`), and none behind
+/// the first, since each question may be a call of the system.
 pub(crate) fn ready_of<L: Waits, N: WaitsNet<Link = L>>(
     conn: &mut Conn<L, N>,
     wants: &Wants,
@@ -79,12 +80,18 @@ pub(crate) fn ready_of<L: Waits, N: WaitsNet<Link = L>>(
     ensures net { N.seen conn.new.net ≡ N.seen conn.old.net }
     ensures ran { conn.new.ran ≡ conn.old.ran }
 {
-    let client_read = may_read(&mut conn.client, wants.client_read);
-    let client_write = may_write(&mut conn.client, wants.client_write);
-    let server_read = may_read_server(&mut conn.server, wants.server_read);
-    let server_write = may_write_server(&mut conn.server, wants.server_write);
     let connect = may_open(&mut conn.net, to, wants.server_open, connect_over);
-    cork(&mut conn.client, client_write, server_read);
+    let server_write = may_write_server(&mut conn.server, wants.server_write);
+    let server_read = may_read_server(&mut conn.server, wants.server_read && !server_write);
+    let server = server_write || server_read;
+    let client_write = may_write(&mut conn.client, wants.client_write && !server);
+    let client_read = may_read(
+        &mut conn.client,
+        wants.client_read && !server && !client_write,
+    );
+    // where a server isn't to be read its bytes may wait within, behind a window that is full
+    let within = client_write && !wants.server_read && conn.server.is_some();
+    cork(&mut conn.client, client_write, server_read || within);
     Ready {
         client_read,
         client_write,

@@ -92,7 +92,10 @@ fn again(
             agenda.feed()
         }
         Looked::GoesOn => agenda.call_next(place),
-        Looked::Hungry => agenda.wait_for_core(place, &plan.times, now),
+        Looked::Hungry => {
+            agenda.wait_for_core(place, &plan.times, now)?;
+            agenda.call_lingering()
+        }
         Looked::Ended(_, _) => {
             agenda.call_next(place)?;
             agenda.feed()
@@ -175,7 +178,7 @@ fn visits<
     Ok(())
 }
 
-/// The call of the connection at this place fails, if the deadline of that has come.
+/// The call of the connection at this place fails, if the deadline of that has come; or its core is asked whether it rests, if it is time.
 fn expire_at<C: Resets, L: Waits, N: WaitsNet<Link = L>>(
     hall: &mut Hall<C, L, N>,
     agenda: &mut Agenda,
@@ -192,7 +195,7 @@ fn expire_at<C: Resets, L: Waits, N: WaitsNet<Link = L>>(
             expire(&mut hall.places[place], call);
             agenda.call_next(place)
         }
-        None => Ok(()),
+        None => agenda.asks_for_rest(place, hall.tools.now),
     }
 }
 
@@ -216,17 +219,14 @@ fn expire_all<C: Resets, L: Waits, N: WaitsNet<Link = L>>(
     Ok(())
 }
 
-/// Where a connection waits for a core and none is free, the read of the kept one fails that has rested longest, so that its core is free.
+/// Where a connection waits for a core and none is free, or a link for a place, the read of the kept one fails that has rested longest of those that have what lacks.
 fn free_one<C: Resets, L: Waits, N: WaitsNet<Link = L>>(
     hall: &mut Hall<C, L, N>,
     agenda: &mut Agenda,
 ) -> Result<(), OutOfMemory>
     ensures asked { AllAsked L.seen L.wrote N.seen hall.old hall.new }
 {
-    if !agenda.lacks_cores() {
-        return Ok(());
-    }
-    let Some(place) = agenda.longest_rested() else {
+    let Some(place) = agenda.gives_way() else {
         return Ok(());
     };
     if place >= hall.places.len() {

@@ -24,3 +24,7 @@ pub returns-clause-fresh : goal.returns-clause-fresh
 returns-clause-fresh g c = λ cfg pair first to first_net h f.
     let stands = g.C.Machine.stands (g.C.ResetsFor.for_peer cfg (source_in pair)) in
     c.free.ensures.fresh cfg pair (h.0, c.rests_with.ensures.same ∙ h.1, goes_stands (g.C.Machine.meaning (g.C.ResetsFor.for_peer cfg (source_in pair))) stands g.C.Machine.seen g.L.Link.seen g.L.Link.wrote first to (g.N.Net.seen first_net) h.0 _ _ _ h.2) f
+
+pub returns-then-not-asks_for_rest-clause-at : goal.returns-then-not-asks_for_rest-clause-at
+returns-then-not-asks_for_rest-clause-at g c = λ cfg first to first_net h.
+    serving_at (g.C.Machine.meaning cfg) (g.C.Machine.stands cfg) g.C.Machine.seen g.C.Machine.sound g.C.Machine.rested g.L.Link.seen g.L.Link.wrote first to (g.N.Net.seen first_net) _ _ _ _ _ c.requires.may h

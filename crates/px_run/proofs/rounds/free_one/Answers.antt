@@ -16,9 +16,6 @@ returns g c =
       };
     }
 
-pub returns-then-not-lacks_cores : goal.returns-then-not-lacks_cores
-returns-then-not-lacks_cores g c = record { asked = all_asked g.L.Link.seen g.L.Link.wrote g.N.Net.seen c.args.hall.now }
-
 pub returns-in_default : goal.returns-in_default
 returns-in_default g c = record { asked = all_asked g.L.Link.seen g.L.Link.wrote g.N.Net.seen c.args.hall.now }
 
