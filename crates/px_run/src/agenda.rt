@@ -34,6 +34,10 @@ pub(crate) struct Agenda {
     pub next: Option<u64>,
     /// A link may wait to be accepted.
     pub may_accept: bool,
+    /// Further links are accepted.
+    pub accepts: bool,
+    /// The place of a connection that was ended so that a further one finds a place, until it has left.
+    makes_room: Option<usize>,
     /// When an accept is tried again that failed.
     retry: Option<u64>,
     /// How many accepts in a row failed.
@@ -62,6 +66,8 @@ impl Agenda {
             woken: Vec::new(alloc),
             next: None,
             may_accept: true,
+            accepts: true,
+            makes_room: None,
             retry: None,
             failed: 0,
         })
@@ -267,10 +273,16 @@ impl Agenda {
         if self.lacks_cores() {
             return self.longest_rested(true);
         }
-        if self.may_accept && !self.has_place() {
-            return self.longest_rested(false);
+        if self.lacks_room() {
+            self.makes_room = self.longest_rested(false);
+            return self.makes_room;
         }
         None
+    }
+
+    /// Whether a link may wait that is to be accepted, no place is left for it, and no connection was ended for it yet that is still to leave.
+    fn lacks_room(&self) -> bool {
+        self.accepts && self.may_accept && self.makes_room.is_none() && !self.has_place()
     }
 
     /// The place of the kept connection that has rested longest, with a core or without.
@@ -317,6 +329,11 @@ impl Agenda {
 
     /// No connection is at this place any more.
     pub fn leave(&mut self, place: usize) -> Result<(), OutOfMemory> {
+        if let Some(ended) = self.makes_room {
+            if ended == place {
+                self.makes_room = None;
+            }
+        }
         self.free.push(place)?;
         Ok(())
     }

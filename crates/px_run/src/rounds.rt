@@ -51,6 +51,7 @@ pub(crate) fn wait<C: Resets, L: Waits, N: WaitsNet<Link = L>, W: Wakes<N>>(
 ) -> Result<(), RunFault>
     ensures asked { AllAsked L.seen L.wrote N.seen hall.old hall.new }
 {
+    agenda.accepts = accepts;
     match wakes.wait(agenda.patience(accepts, hall.tools.now)) {
         Ok(()) => {}
         Err(Fault::Failed) => return Err(RunFault::Net),
