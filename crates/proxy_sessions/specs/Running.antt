@@ -1,5 +1,5 @@
 -- What running by a configuration does with what it is handed.
-use Rattle.std.specs.Prelude.{◌≡◌, ℕ, ◌⊎◌, List, Option, Some, None, Result, Err, OnOk}
+use Rattle.std.specs.Prelude.{◌≡◌, ℕ, ◌⊎◌, ◌*◌, List, Option, Some, None, Result, Err, OnOk}
 use Rattle.px_link.specs.Link.{Seen}
 use Rattle.px_peer.specs.declared.Pair.{Pair}
 use Rattle.px_link.specs.Net.{Place, NetSeen, SameBeside, Bound, BindFailed, BindUnroomed, address_of}
@@ -13,13 +13,17 @@ use Rattle.px_run.specs.declared.plan.Opening.{Opening}
 use Rattle.px_run.specs.declared.plan.RunFault.{RunFault}
 use Rattle.px_run.specs.declared.plan.RunFault.TheVariants as faults
 use Rattle.proxy_sessions.specs.Connections.{responder_of}
-use Rattle.proxy_sessions.specs.Driven.{stands_for, seen_of}
+use Rattle.proxy_sessions.specs.Driven.{stands_at, seen_of}
 use Rattle.proxy_sessions.specs.Lines.{listening_line}
 use Rattle.proxy_sessions.specs.Serving.{GainsBind}
 
 -- The line that says where it listens was written, and no write failed; or a write failed, and a front of it was written.
 abbrev pub WroteListening : Place → (writes writes_now : ℕ) → (old new : Option (List ℕ)) → Type 0
 WroteListening at writes writes_now old new = ((writes_now ≡ writes) × Gains old new (listening_line at)) ⊎ (Rose writes writes_now × GainsFront old new (listening_line at))
+
+-- how many bytes an output window has where many are served at once: four buffers, so that what was read of a server by several reads is written to the client by one call
+abbrev pub wide_window : Config → ℕ
+wide_window cfg = 4 * cfg.limits.bufsize
 
 -- what each link to a server is told first: how the application is asked, where the configuration says one, and the header that it begins with
 abbrev pub opening_of : Config → Opening
@@ -34,7 +38,7 @@ pub record RanLoop {L N : Type 0} (seen : L → Seen) (wrote : L → List ℕ �
   pub writes_then : ℕ
   pub between : Option (List ℕ)
   pub line : WroteListening (address_of cfg.bind) writes writes_then old between
-  pub served : ServedMany (λ pair. meaning_of (record cfg { peer = source_in pair })) (λ pair. stands_for (record cfg { peer = source_in pair })) seen_of seen wrote tells cfg.accept_proxy options.logs (opening_of cfg) net_seen (address_of cfg.server) options.connections accepts_none (net_seen bound) (net_seen now) writes_then writes_now between new answer
+  pub served : ServedMany (λ pair. meaning_of (record cfg { peer = source_in pair })) (λ pair. stands_at (record cfg { peer = source_in pair }) (wide_window cfg)) seen_of seen wrote tells cfg.accept_proxy options.logs (opening_of cfg) net_seen (address_of cfg.server) options.connections accepts_none (net_seen bound) (net_seen now) writes_then writes_now between new answer
 
 -- The bind failed, and nothing was written; or memory ran out at the bind or behind it, and a front of the line was written. No link was accepted.
 abbrev pub NotBegun : (first now : NetSeen) → (old new : Option (List ℕ)) → Place → Result (Unit {0}) RunFault → Type 0

@@ -1,10 +1,10 @@
 //! Clients that are served at once, and their sessions.
-ghost use Rattle.std.specs.Prelude.{◌≡◌, ◌⊎◌, OnOk};
+ghost use Rattle.std.specs.Prelude.{◌≡◌, ◌≤◌, ◌⊎◌, OnOk};
 ghost use Rattle.http_rules.specs.Valid.{IsValid};
 ghost use Rattle.px_link.specs.Net.{Bound, address_of};
 ghost use Rattle.px_link.specs.Told.{GainsFront};
 ghost use Rattle.proxy_sessions.specs.Lines.{listening_line};
-ghost use Rattle.proxy_sessions.specs.Running.{Runs, RanLoop, NotBegun, WroteListening};
+ghost use Rattle.proxy_sessions.specs.Running.{Runs, RanLoop, NotBegun, WroteListening, wide_window};
 
 use crate::cores::RecordCores;
 use crate::lines::listening_line;
@@ -79,6 +79,15 @@ fn write_listening<K: Sink>(alloc: Global, config: &Config, out: &mut K) -> Resu
     }
 }
 
+/// How many bytes an output window has: four buffers.
+fn wide_window(config: &Config) -> u32
+    requires valid { IsValid config.now }
+    ensures size { result ≡ wide_window config.now }
+    ensures least { 64 ≤ result }
+{
+    4 * config.limits.bufsize
+}
+
 /// Serves many clients at once with cores of this process. The net is bound already.
 fn serve_here<
     L: Waits + HasPair + Drop,
@@ -104,7 +113,7 @@ fn serve_here<
     total();
     let cores = RecordCores {
         config,
-        window: config.limits.bufsize,
+        window: wide_window(config),
         peer: config.peer,
     };
     let Ok(sets) = cores_for(alloc, &cores, options.sets.unwrap_or(SETS)) else {
