@@ -365,13 +365,32 @@ kill -0 "$running" 2>/dev/null && wrong="it goes on " || wrong=""
 finish "--connections 3" "$wrong$([ "$(grep -c '^connection ' "$work/lines")" = 3 ] || echo "the lines are $(tr '\n' '/' <"$work/lines")")"
 
 run --sets 2
+wrong="$("${peers[@]}" kept_in_turn "$front" /small 7 5 | grep -vx 35)"
+finish "two sets, seven kept connections, and five requests on each in turn" "${wrong:+$wrong of 35 were answered }"
+
+run --sets 2
+for _ in 1 2 3 4 5 6 7 8; do behind "${peers[@]}" kept_client "$front" /small 30 >/dev/null; started+=("$!"); done
+kept=("${started[@]: -8}")
+sleep 0.5
+wrong="$(answers 2 "$url/small")"
+sleep 0.2
+# one may end where all places are taken, before it is known that nobody waits, and one for the ninth
+left=0
+for it in "${kept[@]}"; do kill "$it" 2>/dev/null && left=$((left + 1)); done
+wait "${kept[@]}" 2>/dev/null
+[ "$left" -ge 6 ] || wrong+="$left of eight are still kept "
+finish "two sets, all of their eight places taken by kept connections, and a ninth" "$wrong"
+
+configure "$origin" 'http-request set-var(sess.kept) int(1)'
+run --sets 2
 behind "${peers[@]}" kept_client "$front" /small 30 >/dev/null; first=$!
 behind "${peers[@]}" kept_client "$front" /small 30 >/dev/null; second=$!
 started+=("$first" "$second")
 sleep 0.5
 wrong="$(answers 2 "$url/small")"
 kill "$first" "$second"; wait "$first" "$second" 2>/dev/null
-finish "two sets, two kept connections, and a third" "$wrong"
+finish "two sets, two kept connections that hold them for their variables, and a third" "$wrong"
+configure "$origin"
 
 run
 behind "${fetch[@]}" --limit-rate 10M "$url/large" -o "$work/got"; slow=$!

@@ -146,6 +146,23 @@ def kept_client(port, path, most):
     print(f"{time.monotonic() - began:.1f}", flush=True)
 
 
+def kept_in_turn(port, path, count, rounds):
+    """So many connections, and on each so many exchanges, one of each in turn: tells how many were answered."""
+    peers = [socket.create_connection(("127.0.0.1", port)) for _ in range(count)]
+    answered = 0
+    for _ in range(rounds):
+        for peer in peers:
+            peer.settimeout(20)
+            peer.sendall(f"GET {path} HTTP/1.1\r\nHost: h\r\n\r\n".encode())
+            try:
+                came = head_of(peer)
+            except OSError:
+                came = None
+            answered += came is not None
+        time.sleep(0.2)
+    print(answered, flush=True)
+
+
 def echo_client(port, path, megabytes):
     """Sends a body and reads its echo at once, and tells whether all of it came back."""
     import hashlib
@@ -178,6 +195,6 @@ def echo_client(port, path, megabytes):
     print(status.decode(), "same" if came.digest() == sent.digest() else f"other, {total} bytes", flush=True)
 
 
-ROLES = {it.__name__: it for it in (silent_server, early_server, full_server, idle_clients, silent_reader, dripping_client, header_by_drips, slow_head, kept_client, echo_client)}
+ROLES = {it.__name__: it for it in (silent_server, early_server, full_server, idle_clients, silent_reader, dripping_client, header_by_drips, slow_head, kept_client, kept_in_turn, echo_client)}
 words = [int(word) if word.lstrip("-").isdigit() else word for word in sys.argv[2:]]
 ROLES[sys.argv[1]](*words)
