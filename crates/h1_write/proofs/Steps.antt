@@ -7,7 +7,7 @@ use Rattle.wire_buf.specs.Buffer.{Buffer}
 use Rattle.htx_model.specs.Block.{Block, RequestLine, ResponseLine, Header, EndHeaders, Data, Trailer, EndTrailers, kind_of, value_of, payload_len}
 use Rattle.htx_model.specs.declared.Kind.TheVariants as kinds
 use Rattle.htx_model.proofs.PublicLaws.{data_is}
-use Rattle.htx_model.specs.Blocks.{block_at, cut_front}
+use Rattle.htx_model.specs.Blocks.{block_at, cut_front, append_data}
 use Rattle.http_model.specs.declared.Framing.{Framing}
 use Rattle.h1_write.specs.declared.text.Put.{Put}
 use Rattle.h1_write.specs.declared.units.Coding.{Coding}
@@ -19,8 +19,8 @@ use Rattle.h1_write.specs.declared.writer.Stage.TheVariants as stage
 use Rattle.h1_write.specs.declared.writer.Writer.{Writer}
 use Rattle.h1_write.specs.Put.{IsPut}
 use Rattle.h1_write.specs.Units.{coding_of, behind, end_text, unit_text, data_text, IsPart}
-use Rattle.h1_write.specs.Spelled.{SpellsBlocks, BeginsBlock, Begins, HasWritten, Writes, EvenAt, EndAt, ended_at}
-use Rattle.h1_write.proofs.Leading.{not_true, begun_text, begun_within, begun_part, text_on, IsAll, writer, Goes, cut, whole, parted}
+use Rattle.h1_write.specs.Spelled.{SpellsData, SpellsBlocks, BeginsBlock, Begins, HasWritten, Writes, EvenAt, EndAt, ended_at}
+use Rattle.h1_write.proofs.Leading.{not_true, spells-push, begun_text, begun_within, begun_part, text_on, IsAll, writer, Goes, cut, whole, parted}
 
 -- ---- the steps of a call
 
@@ -113,6 +113,35 @@ fresh_whole old size at bs put w w' even going within part all p e =
           whole framing no_body taken old.coding old.place 0 put.pos size start.0 b cs h.front text h.coding h.spells part all
           (begins ∙ sym (append-nil h.front)) (omega arith) (p.whole e);
     }))
+
+-- data that is written as it is stands behind the text once it is put there
+pub plain_data : (w : Writer) → w.coding ≡ Plain → EvenAt w.stage → ended_at w.stage ≡ false → (piece window : List ℕ) → Writes w (append_data [] piece) window w [] (window ++ piece)
+plain_data w plain even going [] window = record {
+  more = [];
+  items = refl;
+  leads = λ framing no_body taken text h.
+      let P : List Block → Type 0 = λ ts. HasWritten framing no_body ts [] (text ++ []) w in
+      let Q : List ℕ → Type 0 = λ t. HasWritten framing no_body taken [] t w in
+      ([], refl, subst P (sym (append-nil taken)) (subst Q (sym (append-nil text)) h));
+}
+plain_data w plain even going (x ∷ piece) window =
+    let start = start_of w.stage even going in
+    record {
+      more = x ∷ piece;
+      items = refl;
+      leads = λ framing no_body taken text h.
+          let begins : text ≡ h.front = subst (λ (s : Stage). Begins w.coding w.place s (Data (x ∷ piece) ∷ []) h.front text) start.1 h.begins in
+          let spelled : SpellsData w.coding (x ∷ piece) (x ∷ piece) = subst (λ (c : Coding). SpellsData c (x ∷ piece) (x ∷ piece)) (sym plain) refl in (
+            Data (x ∷ piece) ∷ [],
+            refl,
+            record {
+              front = h.front ++ (x ∷ piece);
+              coding = h.coding;
+              spells = spells-push w.coding Open w.place taken h.front (Data (x ∷ piece)) (x ∷ piece) h.spells spelled;
+              begins = subst (λ (s : Stage). Begins w.coding w.place s [] (h.front ++ (x ∷ piece)) (text ++ (x ∷ piece))) (sym start.1) (ap (λ (t : List ℕ). t ++ (x ∷ piece)) begins);
+            },
+          );
+    }
 
 -- the whole of a block of data is a part of it
 part_by : (size : ℕ) (b : Block) → 0 < size → size ≤ payload_len b → IsPart size b
