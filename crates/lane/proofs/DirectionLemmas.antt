@@ -14,3 +14,4 @@ pub mod PassLemmas
 pub mod PromiseLemmas
 pub mod RestLemmas
 pub mod ShowLemmas
+pub mod StraightLemmas

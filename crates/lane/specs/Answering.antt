@@ -1,5 +1,5 @@
 -- What a lane that answers a client stands for.
-use Rattle.std.specs.Prelude.{◌≡◌, ◌≢◌, ℕ, ◌<◌, ◌⊎◌, List, [], ◌∷◌, ◌++◌, Bool, true, false, Option, Some, None, length, is_some, take, codes}
+use Rattle.std.specs.Prelude.{◌≡◌, ◌≢◌, ℕ, ◌<◌, ◌≤◌, ◌⊎◌, List, [], ◌∷◌, ◌++◌, Bool, true, false, Option, Some, None, length, is_some, take, codes}
 use Rattle.std.specs.List.{flat_map}
 use Rattle.std.specs.Str.{bytes_eq}
 use Rattle.http_model.specs.declared.Ending.{Ending}
@@ -323,6 +323,42 @@ shows_last phase.Answering = true
 pub record IsAmongHeads (lane : ResponseLane) : Type 0 where
   pub first : shows_last (phase_of lane) ≡ false
   pub stage : (stage_of lane ≡ stage.Sending) ⊎ (stage_of lane ≡ stage.Reading)
+
+-- ---- data that goes to the client at once
+
+-- what `push` of these bytes promises
+pub record PushedSo (old : ResponseLane) (bytes : List ℕ) (new : ResponseLane) : Type 0 where
+  pub answers : (p : Exchange) → Answers old p → Answers new (with_bytes p bytes)
+  pub input : input_of new ≡ input_of old ++ bytes
+  pub stage : stage_of new ≡ stage_of old
+  pub window : window_of new ≡ window_of old
+  pub begun : has_begun new ≡ has_begun old
+  pub ended : ended_of new ≡ ended_of old
+  pub phase : phase_of new ≡ phase_of old
+  pub source : source_of new ≡ source_of old
+  pub limits : limits_of new ≡ limits_of old
+  pub sound : IsSoundAnswer old → IsSoundAnswer new
+  pub filters : (filters : List FilterSpec) → HasFilters old filters → HasFilters new filters
+
+-- what `step` promises, but for how far it goes; and it is no further than before
+pub record PutSo (old new : ResponseLane) : Type 0 where
+  pub answers : PutsOut old new
+  pub begun : has_begun old ≡ true → has_begun new ≡ true
+  pub last : shows_last (phase_of old) ≡ true → shows_last (phase_of new) ≡ true
+  pub whole : shows_last (phase_of old) ≡ true → source_of old ≡ source.Whole → source_of new ≡ source.Whole
+  pub heads : shows_last (phase_of old) ≡ false → IsAmongHeads new
+  pub ended : ended_of new ≡ ended_of old
+  pub shrinks : length (input_of new) ≤ length (input_of old)
+  pub limits : limits_of new ≡ limits_of old
+  pub window_size : (window_of new).capacity ≡ (window_of old).capacity
+  pub sound : IsSoundAnswer new
+  pub filters : (filters : List FilterSpec) → HasFilters old filters → HasFilters new filters
+  pub stage : stage_of new ≡ stage_of old
+  pub phase : phase_of new ≡ phase_of old
+
+-- these bytes were pushed, and text was put out
+abbrev pub PassedSo : ResponseLane → List ℕ → ResponseLane → Type 0
+PassedSo old bytes new = (mid : ResponseLane) × PushedSo old bytes mid × PutSo mid new
 
 -- ---- the contract
 

@@ -15,6 +15,7 @@ ghost use Rattle.lane.specs.declared.direction.stage.Stage.TheVariants as stage;
 ghost use Rattle.http_model.specs.declared.Source.TheVariants as source;
 
 mod stepping;
+mod straight;
 mod views;
 
 use crate::direction::{Lane, LaneHead, Stage};

@@ -15,10 +15,12 @@ use Rattle.h1_head.specs.declared.answer.Side.{Side}
 use Rattle.h1_head.specs.Sides.{kind_of}
 use Rattle.h1_head.specs.Scanned.{IsScanned}
 use Rattle.h1_body.specs.declared.reader.BodyReader.{BodyReader}
+use Rattle.h1_body.specs.declared.reader.BodyState.{BodyState}
 use Rattle.h1_body.specs.declared.reader.BodyState.TheVariants as state
 use Rattle.h1_body.specs.Stands.{HasRead, state_of}
 use Rattle.lane.specs.Direction.Sent.{Sent}
-use Rattle.h1_write.specs.Spelled.{IsEven}
+use Rattle.h1_write.specs.Spelled.{IsEven, Writes}
+use Rattle.htx_model.specs.Blocks.{append_data}
 use Rattle.lane.specs.Direction.Carried.{Carries, EndIsOut}
 use Rattle.lane.specs.Direction.Pulled.{IsWaiting}
 use Rattle.lane.specs.declared.direction.stage.Stage.TheVariants as stage
@@ -140,6 +142,27 @@ pub record Stands (lane : LaneState) (p : Past) : Type 0 where
   pub sends : Sends lane p
   pub over : lane.stage ≡ stage.Done → lane.dropped ≡ false → IsAllOut lane
   pub done : lane.stage ≡ stage.Done → lane.source ≢ source.Going
+
+-- the lane where these bytes more came
+abbrev pub with_more : LaneState → List ℕ → LaneState
+with_more lane bytes = record lane { input = record lane.input { items = lane.input.items ++ bytes } }
+
+-- nothing stands between the stream and the text: the message is sent without filters, its body still comes, and nothing of it waits
+pub record IsStraight (lane : LaneState) : Type 0 where
+  pub stage : lane.stage ≡ stage.Sending
+  pub kept : lane.dropped ≡ false
+  pub going : lane.source ≡ source.Going
+  pub sieve : lane.sieve ≡ None
+  pub input : lane.input.items ≡ []
+  pub msg : lane.msg.blocks ≡ []
+  pub out : lane.out.blocks ≡ []
+  pub writes : (piece window : List ℕ) → Writes lane.writer (append_data [] piece) window lane.writer [] (window ++ piece)
+
+-- what a reader's state says of the source
+abbrev pub source_told : BodyState → Source
+source_told state.More = source.Going
+source_told state.Whole = source.Whole
+source_told state.Bad = source.Cut 400
 
 -- a lane that stopped short of the end waits for its output to be taken, or for the stream
 abbrev pub GoesOn : LaneState → Type 0

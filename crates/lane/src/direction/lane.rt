@@ -5,6 +5,7 @@ mod carry;
 mod dropping;
 mod heads;
 mod read;
+mod straight;
 mod telling;
 mod views;
 
