@@ -23,7 +23,7 @@ use Rattle.h1_head.specs.Stream.{behind}
 use Rattle.h1_head.specs.Decides.{OnEachStream, MayWait}
 use Rattle.lane.specs.Direction.Filtering.{AreThese}
 use Rattle.lane.specs.Direction.Promise.{Promise}
-use Rattle.lane.specs.Direction.Sends.{Past, Stands, IsSound, IsReading, IsAtRest, RestsFor, put_out, GoesOn}
+use Rattle.lane.specs.Direction.Sends.{Past, Stands, IsSound, IsReading, IsAtRest, RestsFor, MayPass, put_out, GoesOn}
 use Rattle.lane.specs.Direction.Shown.{Shows}
 use Rattle.lane.specs.declared.direction.stage.LaneHead.{LaneHead}
 use Rattle.lane.specs.declared.direction.stage.LaneHead.TheVariants as says
@@ -355,6 +355,10 @@ pub record PutSo (old new : ResponseLane) : Type 0 where
   pub filters : (filters : List FilterSpec) → HasFilters old filters → HasFilters new filters
   pub stage : stage_of new ≡ stage_of old
   pub phase : phase_of new ≡ phase_of old
+
+-- some of these bytes can go to the client at once
+abbrev pub MayPassOn : ResponseLane → List ℕ → Type 0
+MayPassOn lane bytes = (lane.phase ≡ phase.Answering) × MayPass lane.lane bytes
 
 -- these bytes were pushed, and text was put out
 abbrev pub PassedSo : ResponseLane → List ℕ → ResponseLane → Type 0

@@ -1,12 +1,12 @@
 -- What a lane stands for while it sends a message.
-use Rattle.std.specs.Prelude.{◌≡◌, ◌≢◌, ℕ, ◌+◌, ◌*◌, ◌<◌, ◌≤◌, ◌⊎◌, List, [], ◌++◌, Bool, true, false, Option, Some, None, length, nat_lt, if◌then◌else◌}
+use Rattle.std.specs.Prelude.{◌≡◌, ◌≢◌, ℕ, ◌+◌, ◌*◌, ◌<◌, ◌≤◌, ◌⊎◌, List, [], ◌++◌, Bool, true, false, Option, Some, None, length, ⊤, nat_lt, if◌then◌else◌}
 use Rattle.http_model.specs.declared.Framing.{Framing}
 use Rattle.http_model.specs.declared.Framing.TheVariants as framing
 use Rattle.http_model.specs.declared.Ending.{Ending}
 use Rattle.http_model.specs.Head.{Head}
 use Rattle.http_model.specs.Sizes.{least_size, most_size, least_head}
 use Rattle.body_filter.specs.declared.filter_spec.FilterSpec.{FilterSpec}
-use Rattle.body_filter.specs.declared.filter_spec.FedState.TheVariants.{Over}
+use Rattle.body_filter.specs.declared.filter_spec.FedState.TheVariants as fed
 use Rattle.body_filter.specs.Filter.{filtered}
 use Rattle.lane.specs.Sieve.Sieved.{end_of, is_open}
 use Rattle.lane.specs.declared.sieve.sieve.Sieve.{Sieve}
@@ -18,9 +18,10 @@ use Rattle.h1_body.specs.declared.reader.BodyReader.{BodyReader}
 use Rattle.h1_body.specs.declared.reader.BodyState.{BodyState}
 use Rattle.h1_body.specs.declared.reader.BodyState.TheVariants as state
 use Rattle.h1_body.specs.Stands.{HasRead, state_of}
+use Rattle.h1_body.specs.Body.{BodyAt, Left, UntilClose, InLine, InData, AtReturn, AtFeed, InSection, Over, Hopeless}
+use Rattle.h1_body.specs.BodyOf.{place_of}
 use Rattle.lane.specs.Direction.Sent.{Sent}
-use Rattle.h1_write.specs.Spelled.{IsEven, Writes}
-use Rattle.htx_model.specs.Blocks.{append_data}
+use Rattle.h1_write.specs.Spelled.{IsEven, IsPlain}
 use Rattle.lane.specs.Direction.Carried.{Carries, EndIsOut}
 use Rattle.lane.specs.Direction.Pulled.{IsWaiting}
 use Rattle.lane.specs.declared.direction.stage.Stage.TheVariants as stage
@@ -55,7 +56,7 @@ pub record IsSized (lane : LaneState) : Type 0 where
 abbrev pub SourceIs : Source → Option Sieve → List FilterSpec → BodyReader → Option Ending → (input section found passed : List ℕ) → Type 0
 SourceIs source.Going sieve filters reader ended input section found passed = GoesOnBy sieve reader ended input section
 SourceIs source.Whole sieve filters reader ended input section found passed =
-    IsWholeAt reader ended input section × (filtered filters true found ≡ record { output = passed; state = Over })
+    IsWholeAt reader ended input section × (filtered filters true found ≡ record { output = passed; state = fed.Over })
 SourceIs (source.Cut code) sieve filters reader ended input section found passed = CutBy filters reader ended input section found passed code
 
 -- the lane sends the message of this past
@@ -143,6 +144,10 @@ pub record Stands (lane : LaneState) (p : Past) : Type 0 where
   pub over : lane.stage ≡ stage.Done → lane.dropped ≡ false → IsAllOut lane
   pub done : lane.stage ≡ stage.Done → lane.source ≢ source.Going
 
+-- a lane that stopped short of the end waits for its output to be taken, or for the stream
+abbrev pub GoesOn : LaneState → Type 0
+GoesOn lane = (0 < length lane.output.items) ⊎ ((lane.source ≡ source.Going) × (length lane.input.items < lane.input.capacity) × (lane.ended ≡ None))
+
 -- the lane where these bytes more came
 abbrev pub with_more : LaneState → List ℕ → LaneState
 with_more lane bytes = record lane { input = record lane.input { items = lane.input.items ++ bytes } }
@@ -156,17 +161,34 @@ pub record IsStraight (lane : LaneState) : Type 0 where
   pub input : lane.input.items ≡ []
   pub msg : lane.msg.blocks ≡ []
   pub out : lane.out.blocks ≡ []
-  pub writes : (piece window : List ℕ) → Writes lane.writer (append_data [] piece) window lane.writer [] (window ++ piece)
+  pub plain : IsPlain lane.writer
+
+-- what comes next of a body is data without lines between
+abbrev pub IsAtData : BodyAt → Type 0
+IsAtData (Left left) = ⊤
+IsAtData UntilClose = ⊤
+IsAtData (InLine place behind) = ⊥
+IsAtData (InData left) = ⊥
+IsAtData AtReturn = ⊥
+IsAtData AtFeed = ⊥
+IsAtData (InSection section) = ⊥
+IsAtData (Over rest) = ⊥
+IsAtData Hopeless = ⊥
+
+-- some of these bytes can go to the text at once
+pub record MayPass (lane : LaneState) (bytes : List ℕ) : Type 0 where
+  pub past : Past
+  pub stands : Stands lane past
+  pub straight : IsStraight lane
+  pub at : IsAtData (place_of past.reads past.bytes)
+  pub any : 0 < length bytes
+  pub room : length lane.output.items < lane.output.capacity
 
 -- what a reader's state says of the source
 abbrev pub source_told : BodyState → Source
 source_told state.More = source.Going
 source_told state.Whole = source.Whole
 source_told state.Bad = source.Cut 400
-
--- a lane that stopped short of the end waits for its output to be taken, or for the stream
-abbrev pub GoesOn : LaneState → Type 0
-GoesOn lane = (0 < length lane.output.items) ⊎ ((lane.source ≡ source.Going) × (length lane.input.items < lane.input.capacity) × (lane.ended ≡ None))
 
 -- the sizes of a lane, and the limits that it was made with
 pub record IsSound (lane : LaneState) : Type 0 where

@@ -1,7 +1,7 @@
 //! Data of a server that goes to the client at once.
 ghost use Rattle.std.specs.Prelude.{◌≡◌, ◌≤◌, ◌<◌, ◌+◌, length, take, true, List};
 ghost use Rattle.body_filter.specs.declared.filter_spec.FilterSpec.{FilterSpec};
-ghost use Rattle.lane.specs.Answering.{PassedSo, IsOpen, IsSoundAnswer, HasFilters, stage_of, input_of, came_in, most_of, ended_of, window_of, limits_of, phase_of};
+ghost use Rattle.lane.specs.Answering.{MayPassOn, PassedSo, IsOpen, IsSoundAnswer, HasFilters, stage_of, input_of, came_in, most_of, ended_of, window_of, limits_of, phase_of};
 ghost use Rattle.lane.specs.declared.phase.Phase.TheVariants as phase;
 ghost use Rattle.lane.specs.declared.direction.stage.Stage.TheVariants as stage;
 
@@ -11,7 +11,8 @@ use crate::response_lane::ResponseLane;
 impl ResponseLane {
     /// Whether the last that answers is put out.
     fn is_answering(&self) -> bool
-        ensures { result ≡ true → phase_of self.now ≡ phase.Answering }
+        ensures answering { result ≡ true → phase_of self.now ≡ phase.Answering }
+        ensures only { phase_of self.now ≡ phase.Answering → result ≡ true }
     {
         match self.phase {
             Phase::Answering => true,
@@ -28,6 +29,7 @@ impl ResponseLane {
         ensures within { result ≤ length bytes.now }
         ensures none { result ≡ 0 → self.new ≡ self.old }
         ensures some { 0 < result → (phase_of self.old ≡ phase.Answering) × (stage_of self.old ≡ stage.Sending) }
+        ensures takes { MayPassOn self.old bytes.now → 0 < result }
         ensures as_if { 0 < result → PassedSo self.old (take result bytes.now) self.new }
         ensures stage { stage_of self.new ≡ stage_of self.old }
         ensures came { came_in self.new ≡ came_in self.old }

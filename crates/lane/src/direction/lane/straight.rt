@@ -1,8 +1,10 @@
 //! Data that goes from the stream to the text at once.
-ghost use Rattle.std.specs.Prelude.{◌≡◌, ◌≢◌, ◌≤◌, ◌+◌, ◌++◌, [], length, take, true, None, List, ℕ};
+ghost use Rattle.std.specs.Prelude.{◌≡◌, ◌≢◌, ◌≤◌, ◌<◌, ◌+◌, ◌++◌, [], length, take, true, None, List, ℕ};
 ghost use Rattle.body_filter.specs.declared.filter_spec.FilterSpec.{FilterSpec};
 ghost use Rattle.lane.specs.Direction.Filtering.{AreThese};
-ghost use Rattle.lane.specs.Direction.Sends.{Past, Stands, IsSound, IsStraight, source_told, with_more};
+ghost use Rattle.lane.specs.Direction.Sends.{Past, Stands, IsSound, IsStraight, MayPass, source_told, with_more};
+ghost use Rattle.htx_model.specs.Blocks.{append_data};
+ghost use Rattle.h1_write.specs.Spelled.{Writes};
 ghost use Rattle.http_model.specs.declared.Source.TheVariants as source;
 
 use crate::direction::lane::Lane;
@@ -24,7 +26,9 @@ fn source_of(state: BodyState) -> Source
 impl Lane {
     /// Whether nothing stands between the stream and the text, and data is written as it is.
     fn is_straight(&self) -> bool
-        ensures { result ≡ true → IsStraight self.now }
+        ensures straight { result ≡ true → IsStraight self.now }
+        ensures only { IsStraight self.now → result ≡ true }
+        ensures writes { result ≡ true → (piece window : List ℕ) → Writes self.now.writer (append_data [] piece) window self.now.writer [] (window ++ piece) }
     {
         if self.stage != Stage::Sending {
             return false;
@@ -59,6 +63,7 @@ impl Lane {
         ensures within { result ≤ length bytes.now }
         ensures none { result ≡ 0 → self.new ≡ self.old }
         ensures some { result ≢ 0 → IsStraight self.old }
+        ensures takes { MayPass self.old bytes.now → 0 < result }
         ensures stands { (p : Past) → Stands (with_more self.old (take result bytes.now)) p → Stands self.new p }
         ensures same { self.new ≡ record self.old { output = self.new.output; reader = self.new.reader; source = self.new.source } }
         ensures sound { IsSound self.new }

@@ -18,7 +18,7 @@ returns-then-output_len-before-clause-as_if c = λ some.
     let more : length old.lane.output.items < length new.output.items = omega arith in
     let g : GoesStraight old.lane bytes new =
     record { straight = e.some not_none; stands = e.stands; same = e.same; sound = e.sound; window = e.window; put = e.grows.0; grows = e.grows.1 } in
-    passed_so old bytes new true c.requires.open c.requires.sound fits (c.is_answering.ensures c.if-not-is_answering.false) g
+    passed_so old bytes new true c.requires.open c.requires.sound fits (c.is_answering.ensures.answering c.if-not-is_answering.false) g
     (λ text h. begins_now g.put old.lane.output.items new.output.items g.grows more text) (λ _. refl)
 
 pub returns-clause-as_if : goal.returns-clause-as_if
@@ -35,5 +35,5 @@ returns-clause-as_if c = λ some.
     let less : length new.output.items ≤ length old.lane.output.items = omega arith in
     let g : GoesStraight old.lane bytes new =
     record { straight = e.some not_none; stands = e.stands; same = e.same; sound = e.sound; window = e.window; put = e.grows.0; grows = e.grows.1 } in
-    passed_so old bytes new old.begun c.requires.open c.requires.sound fits (c.is_answering.ensures c.if-not-is_answering.false) g
+    passed_so old bytes new old.begun c.requires.open c.requires.sound fits (c.is_answering.ensures.answering c.if-not-is_answering.false) g
     (begins_not old.begun g.put old.lane.output.items new.output.items g.grows less) (λ h. h)
