@@ -12,6 +12,7 @@ mod Serving
 mod Fronts
 mod Consequences
 mod Events
+mod Gaining
 mod Opening
 mod Working
 mod Answering

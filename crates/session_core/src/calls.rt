@@ -1,5 +1,5 @@
 //! What peers give and take: the calls that a driver makes.
-ghost use Rattle.std.specs.Prelude.{◌≡◌, ◌≢◌, ◌≤◌, [], length, take, IsTrue, Bool, true, false};
+ghost use Rattle.std.specs.Prelude.{◌≡◌, ◌≢◌, ◌≤◌, ◌<◌, ◌+◌, [], length, take, IsTrue, Bool, true, false};
 ghost use Rattle.session_core.specs.History.{FromClient, ClientEnded, ClientTook, ServerOpened, FromServer, ServerEnded, ServerTook, ServerStopped, ServerClosed};
 ghost use Rattle.session_core.specs.Waits.{is_serving};
 ghost use Rattle.session_core.specs.Leads.{Leads};
@@ -65,8 +65,44 @@ impl<S: Works> Core<S> {
         }
     }
 
-    /// The server gives these bytes.
+    /// The server gives these bytes. Data at their front goes to the client at once where nothing is to be done with it.
     pub fn from_server(&mut self, bytes: &[u8])
+        requires serving { self.old.at.phase ≡ Phase.Serving }
+        requires open { IsTrue (S.answer self.old.sides).is_open }
+        requires room { length bytes.now ≤ (S.answer self.old.sides).room }
+        requires placed { IsPlaced (S.placed self.old.sides) (S.answer self.old.sides) self.old.at.phase self.old.at.cut }
+        ensures placed { IsPlaced (S.placed self.new.sides) (S.answer self.new.sides) self.new.at.phase self.new.at.cut }
+        ensures leads { Leads S.meaning S.request S.answer S.stands self.old.sides self.old.at self.new.sides self.new.at (FromServer bytes.now) }
+        ensures serving { is_serving self.new.at.phase ≡ is_serving self.old.at.phase }
+        ensures lost { self.new.lost ≡ self.old.lost }
+    {
+        let passed = self.pass_data(bytes);
+        self.take_in(&bytes[passed..]);
+    }
+
+    /// Data at the front goes to the client at once; how many bytes did.
+    fn pass_data(&mut self, bytes: &[u8]) -> usize
+        requires serving { self.old.at.phase ≡ Phase.Serving }
+        requires open { IsTrue (S.answer self.old.sides).is_open }
+        requires room { length bytes.now ≤ (S.answer self.old.sides).room }
+        requires placed { IsPlaced (S.placed self.old.sides) (S.answer self.old.sides) self.old.at.phase self.old.at.cut }
+        ensures within { result ≤ length bytes.now }
+        ensures none { result ≡ 0 → self.new ≡ self.old }
+        ensures placed { IsPlaced (S.placed self.new.sides) (S.answer self.new.sides) self.new.at.phase self.new.at.cut }
+        ensures leads { 0 < result → Leads S.meaning S.request S.answer S.stands self.old.sides self.old.at self.new.sides self.new.at (FromServer (take result bytes.now)) }
+        ensures open { IsTrue (S.answer self.new.sides).is_open }
+        ensures room { length bytes.now ≤ result + (S.answer self.new.sides).room }
+        ensures at { self.new.at ≡ self.old.at }
+        ensures lost { self.new.lost ≡ self.old.lost }
+    {
+        if self.is_turned() {
+            return 0;
+        }
+        self.sides.pass_data(bytes)
+    }
+
+    /// Bytes of the server come, and wait for the work with them.
+    fn take_in(&mut self, bytes: &[u8])
         requires serving { self.old.at.phase ≡ Phase.Serving }
         requires open { IsTrue (S.answer self.old.sides).is_open }
         requires room { length bytes.now ≤ (S.answer self.old.sides).room }

@@ -1,5 +1,5 @@
 //! The two directions of a core, as it sees them.
-ghost use Rattle.std.specs.Prelude.{◌≡◌, ◌≢◌, ◌≤◌, ◌<◌, ◌++◌, ◌-◌, [], ℕ, List, Bool, Option, true, false, not, nat_lt, length, take, drop, OnOk, IfOk, IsOk, IsTrue};
+ghost use Rattle.std.specs.Prelude.{◌≡◌, ◌≢◌, ◌≤◌, ◌<◌, ◌++◌, ◌+◌, ◌-◌, [], ℕ, List, Bool, Option, true, false, not, nat_lt, length, take, drop, OnOk, IfOk, IsOk, IsTrue};
 ghost use Rattle.session_model.specs.Meaning.{Meaning};
 ghost use Rattle.session_core.specs.Consequences.{IsTotal};
 ghost use Rattle.session_core.specs.History.{no_stream, gains, ends};
@@ -198,6 +198,21 @@ pub trait Works {
         ensures leads { (cfg : Self.Settings) (p : Sided (meaning cfg)) → stands cfg self.old p → stands cfg self.new (record p { server = gains p.server bytes.now }) }
         ensures request { request self.new ≡ request self.old }
         ensures answer { answer self.new ≡ record (answer self.old) { room = (answer self.old).room - length bytes.now; at_rest = false } };
+
+    /// Bytes of the server come, and data at their front goes to the client at once; how many did. It is as if these had come
+    /// and a step had put them out. The caller hands on the others.
+    fn pass_data(&mut self, bytes: &[u8]) -> usize
+        requires open { IsTrue (answer self.old).is_open }
+        requires room { length bytes.now ≤ (answer self.old).room }
+        requires placed { placed self.old place.Serves }
+        ensures within { result ≤ length bytes.now }
+        ensures none { result ≡ 0 → self.new ≡ self.old }
+        ensures placed { placed self.new place.Serves }
+        ensures leads { 0 < result → (cfg : Self.Settings) (p : Sided (meaning cfg)) → stands cfg self.old p
+            → StepsAnswer (meaning cfg) (stands cfg self.new) (answer self.old) (answer self.new) (record p { server = gains p.server (take result bytes.now) }) }
+        ensures open { (answer self.new).is_open ≡ (answer self.old).is_open }
+        ensures room { length bytes.now ≤ result + (answer self.new).room }
+        ensures request { request self.new ≡ request self.old };
 
     fn server_ended(&mut self, how: Ending)
         requires open { IsTrue (answer self.old).is_open }

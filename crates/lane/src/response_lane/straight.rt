@@ -21,7 +21,7 @@ impl ResponseLane {
     }
 
     /// Bytes of the server's stream come, and go to the client at once, as many at the front as can; how many did. The caller
-    /// pushes the others. It is as if these were pushed and put out, but no byte is copied on the way.
+    /// pushes the others. It is as if these were pushed and put out, but each is copied once.
     pub fn pass_data(&mut self, bytes: &[u8]) -> usize
         requires open { IsOpen self.old }
         requires sound { IsSoundAnswer self.old }
