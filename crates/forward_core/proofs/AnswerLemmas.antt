@@ -9,6 +9,7 @@ pub mod Saying
 pub mod Lines
 pub mod Listed
 pub mod Putting
+pub mod PassLemmas
 pub mod HeardLemmas
 pub mod ReadLemmas
 pub mod SettleLemmas

@@ -10,6 +10,7 @@ pub mod Windows
 pub mod Joining
 pub mod Judged
 pub mod Methods
+pub mod Passing
 pub mod Refusing
 pub mod Replying
 pub mod SayLemmas

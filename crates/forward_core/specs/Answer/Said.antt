@@ -38,3 +38,9 @@ pub record PutsMore (cfg : Config) (old new : AnswerSide) (asking : Asking Varia
   pub stands : AnswerStands cfg new asking server (to_client ++ put) now saying
   pub window : (seen new).window ≡ (seen old).window ++ put
   pub waits : AnswerWaits (seen new)
+
+-- more of the last that answers was put out
+pub record PutsSome (cfg : Config) (old new : AnswerSide) (asking : Asking Variables) (server : Coming) (to_client : List ℕ) (now : Variables) (saying : Saying) : Type 0 where
+  pub put : List ℕ
+  pub stands : AnswerStands cfg new asking server (to_client ++ put) now saying
+  pub window : (seen new).window ≡ (seen old).window ++ put

@@ -13,6 +13,7 @@ ghost use Rattle.forward_core.specs.declared.answer.place.Place.TheVariants as p
 
 mod instead;
 mod judging;
+mod passing;
 mod putting;
 mod reading;
 mod saying;

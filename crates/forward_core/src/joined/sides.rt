@@ -143,6 +143,12 @@ impl<'c> Works for Directions<'c> {
         self.answer.from_server(bytes);
     }
 
+    fn pass_data(&mut self, bytes: &[u8]) -> usize {
+        crate::answer::laws::answers();
+        crate::answer::laws::comes_before();
+        self.answer.pass_data(bytes)
+    }
+
     fn server_ended(&mut self, how: Ending) {
         self.answer.server_ended(how);
     }

@@ -14,7 +14,7 @@ use crate::answer::side::AnswerSide;
 use crate::answer::side::views::is_done;
 
 /// Whether the last that answers goes out.
-fn is_last(place: Place) -> bool
+pub(super) fn is_last(place: Place) -> bool
     ensures { result ≡ spec.is_last place }
 {
     match place {
