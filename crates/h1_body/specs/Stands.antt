@@ -1,5 +1,5 @@
 -- What a reader stands for.
-use Rattle.std.specs.Prelude.{◌≡◌, ℕ, ◌+◌, ◌<◌, ◌≤◌, ◌⊎◌, Bool, true, false, List, [], ◌∷◌, ◌++◌, length, take, ⊤, Option, Some, None, if◌then◌else◌, ◌==◌, slice_range}
+use Rattle.std.specs.Prelude.{◌≡◌, ℕ, ◌+◌, ◌-◌, ◌^◌, ◌<◌, ◌≤◌, ◌⊎◌, Bool, true, false, List, [], ◌∷◌, ◌++◌, length, take, ⊤, Option, Some, None, if◌then◌else◌, ◌==◌, slice_range}
 use Rattle.httparse.specs.Grammar as grammar
 use Rattle.http_model.specs.declared.Limits.{Limits}
 use Rattle.http_model.specs.declared.Framing.{Framing}
@@ -134,6 +134,27 @@ pub record Feeds (most : ℕ) (old : Stage) (window : List ℕ) (room : ℕ) (fe
   pub waits : (at : BodyAt) → Stands most old at → fed.used ≡ 0 → WaitsAt most fed.stage window room
   pub section : OnSection fed.found (IsGiven most window fed.used)
 
+-- how many bytes that come next are data, with no line between them, whatever they are; up to a close there is no end to them
+abbrev pub ahead_at : Stage → ℕ
+ahead_at (stage.Left left) = left
+ahead_at stage.UntilClose = 2 ^ 64 - 1
+ahead_at stage.Line = 0
+ahead_at (stage.Data left) = 0
+ahead_at stage.LineEnd = 0
+ahead_at stage.Section = 0
+ahead_at stage.Over = 0
+ahead_at stage.Dead = 0
+
+-- a window was used whole, no section was found, and as many bytes less are ahead
+pub record TakesAll (old : Stage) (window : List ℕ) (fed : Fed) : Type 0 where
+  pub used : fed.used ≡ length window
+  pub none : span_of fed.found ≡ None
+  pub ahead : ahead_at old ≤ ahead_at fed.stage + length window
+
+-- a window of such bytes alone is used whole, where there is room for them
+abbrev pub TakesAhead : Stage → List ℕ → ℕ → Fed → Type 0
+TakesAhead old window room fed = 0 < length window → length window ≤ ahead_at old → length window ≤ room → TakesAll old window fed
+
 -- ---- what callers see
 
 -- The bytes so far have this data, the reader stands behind them, and a trailer section, where it is whole, was these
@@ -149,6 +170,10 @@ pub record HasRead (limits : Limits) (framing : Framing) (bytes found section : 
 -- whether the body is whole, may become whole, or cannot
 abbrev pub state_of : BodyReader → BodyState
 state_of reader = state_at reader.stage
+
+-- how many bytes that come next are data, with no line between them
+abbrev pub ahead_of : BodyReader → ℕ
+ahead_of reader = ahead_at reader.stage
 
 -- the most bytes of a trailer section
 abbrev pub limit_of : BodyReader → ℕ

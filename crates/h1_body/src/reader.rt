@@ -1,5 +1,5 @@
 //! The reader of a body.
-ghost use Rattle.std.specs.Prelude.{◌≡◌, ◌≤◌, ◌<◌, ◌+◌, ◌++◌, [], length, take, drop, true, false, Some, List, ℕ, IfSome};
+ghost use Rattle.std.specs.Prelude.{◌≡◌, ◌≤◌, ◌<◌, ◌+◌, ◌++◌, [], length, take, drop, true, false, Some, None, List, ℕ, IfSome};
 ghost use Rattle.httparse.specs.Grammar as grammar;
 ghost use Rattle.http_model.specs.declared.Framing.{Framing};
 ghost use Rattle.http_model.specs.declared.Limits.{Limits};
@@ -7,7 +7,7 @@ ghost use Rattle.http_model.specs.Sizes.{least_size};
 ghost use Rattle.h1_body.specs.Section.{BeginsFields};
 ghost use Rattle.h1_body.specs.Scan.{IsScanned};
 ghost use Rattle.h1_body.specs.BodyOf.{StateTells, ClosedIsWhole, ClosedIsCut};
-ghost use Rattle.h1_body.specs.Stands.{HasRead, Waits, state_at, state_of, ends_at, ends_of, limit_of, bytes_of, data_len, span_of};
+ghost use Rattle.h1_body.specs.Stands.{HasRead, Waits, state_at, state_of, ends_at, ends_of, limit_of, bytes_of, data_len, span_of, ahead_at, ahead_of};
 
 use crate::scan::{SectionScan, behind_used, is_early, look_on};
 use crate::stages::{Found, Stage, feed_at};
@@ -69,6 +69,17 @@ fn ends(stage: Stage) -> bool
     matches!(stage, Stage::UntilClose | Stage::Over)
 }
 
+/// How many bytes that come next are data, with no line between them.
+fn ahead(stage: Stage) -> usize
+    ensures { result ≡ ahead_at stage }
+{
+    match stage {
+        Stage::Left(left) => left as usize,
+        Stage::UntilClose => usize::MAX,
+        _ => 0,
+    }
+}
+
 /// The bytes of data that a step found.
 fn piece_of(found: Found) -> Span
     ensures { result ≡ record { from = 0; len = data_len found } }
@@ -126,6 +137,14 @@ impl BodyReader {
         ends(self.stage)
     }
 
+    /// How many bytes that come next are data, with no line between them, whatever they are: those that a declared length still
+    /// lacks, or without an end up to a close. Where a line may come first it is none.
+    pub fn data_ahead(&self) -> usize
+        ensures { result ≡ ahead_of self.now }
+    {
+        ahead(self.stage)
+    }
+
     /// Takes the next part of the body from the front of the window, and at most `room` bytes of data. The window is
     /// the bytes of the stream that were not used yet.
     pub fn feed(&mut self, window: &[u8], room: u32) -> BodyStep
@@ -144,6 +163,8 @@ impl BodyReader {
         ensures state { result.state ≡ state_of self.new }
         ensures waits { (limits : Limits) (framing : Framing) (bytes found section : List ℕ) → HasRead limits framing bytes found section self.old
             → result.used ≡ 0 → Waits self.new window.now room }
+        ensures ahead { 0 < length window.now → length window.now ≤ ahead_of self.old → length window.now ≤ room
+            → (result.used ≡ length window.now) × (result.trailers ≡ None) × (ahead_of self.old ≤ ahead_of self.new + length window.now) }
     {
         let fed = feed_at(self.stage, window, room, self.section_limit);
         self.stage = fed.stage;

@@ -1,7 +1,7 @@
 //! What each stage of a reader makes of a window.
 ghost use Rattle.std.specs.Prelude.{◌≡◌, ◌≤◌, ◌<◌, ◌⊎◌, [], ℕ};
 ghost use Rattle.h1_body.specs.declared.stages.Stage.TheVariants as stage;
-ghost use Rattle.h1_body.specs.Stands.{Feeds, WaitsAt};
+ghost use Rattle.h1_body.specs.Stands.{Feeds, WaitsAt, TakesAhead};
 
 use crate::line::{LineRead, read_line};
 use crate::section::{SectionRead, read_section};
@@ -72,7 +72,8 @@ fn data_len(left: u64, window: usize, room: u32) -> usize
 
 /// So many bytes are to come.
 fn feed_left(left: u64, window: &[u8], room: u32) -> Fed
-    ensures { (most : ℕ) → Feeds most (stage.Left left) window.now room result }
+    ensures feeds { (most : ℕ) → Feeds most (stage.Left left) window.now room result }
+    ensures ahead { TakesAhead (stage.Left left) window.now room result }
 {
     let len = data_len(left, window.len(), room);
     let stage = if len as u64 == left {
@@ -89,7 +90,8 @@ fn feed_left(left: u64, window: &[u8], room: u32) -> Fed
 
 /// All bytes are data.
 fn feed_until_close(window: &[u8], room: u32) -> Fed
-    ensures { (most : ℕ) → Feeds most stage.UntilClose window.now room result }
+    ensures feeds { (most : ℕ) → Feeds most stage.UntilClose window.now room result }
+    ensures ahead { TakesAhead stage.UntilClose window.now room result }
 {
     let len = fitting(window.len(), room);
     Fed {
@@ -204,7 +206,8 @@ fn stay(stage: Stage, window: &[u8], room: u32) -> Fed
 
 /// What a stage makes of a window.
 pub fn feed_at(stage: Stage, window: &[u8], room: u32, limit: u32) -> Fed
-    ensures { Feeds limit stage window.now room result }
+    ensures feeds { Feeds limit stage window.now room result }
+    ensures ahead { TakesAhead stage window.now room result }
 {
     match stage {
         Stage::Left(left) => feed_left(left, window, room),
