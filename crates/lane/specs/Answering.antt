@@ -1,5 +1,5 @@
 -- What a lane that answers a client stands for.
-use Rattle.std.specs.Prelude.{◌≡◌, ◌≢◌, ℕ, ◌<◌, ◌≤◌, ◌⊎◌, List, [], ◌∷◌, ◌++◌, Bool, true, false, Option, Some, None, length, is_some, take, codes}
+use Rattle.std.specs.Prelude.{◌≡◌, ◌≢◌, ℕ, ◌<◌, ◌≤◌, ◌⊎◌, List, [], ◌∷◌, ◌++◌, Bool, true, false, Option, Some, None, length, is_some, take, min, ◌-◌, codes}
 use Rattle.std.specs.List.{flat_map}
 use Rattle.std.specs.Str.{bytes_eq}
 use Rattle.http_model.specs.declared.Ending.{Ending}
@@ -14,6 +14,7 @@ use Rattle.http_model.specs.Finish.{finish_interim}
 use Rattle.http_model.specs.Head.{Head, StartLine, RequestLine, StatusLine, head_blocks, front_blocks}
 use Rattle.http_model.specs.Reading.{Received, HeadReading, Nothing, Refused, Begins}
 use Rattle.http_model.specs.Spelling.{head_text}
+use Rattle.h1_body.specs.Stands.{ahead_of}
 use Rattle.body_filter.specs.declared.filter_spec.FilterSpec.{FilterSpec}
 use Rattle.h1_head.specs.declared.answer.Side.TheVariants.{Response}
 use Rattle.h1_head.specs.Received.{IsReceived}
@@ -23,7 +24,7 @@ use Rattle.h1_head.specs.Stream.{behind}
 use Rattle.h1_head.specs.Decides.{OnEachStream, MayWait}
 use Rattle.lane.specs.Direction.Filtering.{AreThese}
 use Rattle.lane.specs.Direction.Promise.{Promise}
-use Rattle.lane.specs.Direction.Sends.{Past, Stands, IsSound, IsReading, IsAtRest, RestsFor, MayPass, put_out, GoesOn}
+use Rattle.lane.specs.Direction.Sends.{Past, Stands, IsSound, IsReading, IsAtRest, RestsFor, MayPass, IsStraight, GoesAtOnce, put_out, GoesOn}
 use Rattle.lane.specs.Direction.Shown.{Shows}
 use Rattle.lane.specs.declared.direction.stage.LaneHead.{LaneHead}
 use Rattle.lane.specs.declared.direction.stage.LaneHead.TheVariants as says
@@ -359,6 +360,20 @@ pub record PutSo (old new : ResponseLane) : Type 0 where
 -- some of these bytes can go to the client at once
 abbrev pub MayPassOn : ResponseLane → List ℕ → Type 0
 MayPassOn lane bytes = (lane.phase ≡ phase.Answering) × MayPass lane.lane bytes
+
+-- So many bytes of the server, whatever they are, go to the client at once where they come: none, or where the last that answers goes out as many as
+-- its lane passes on so.
+pub data AnswerGoesAtOnce (lane : ResponseLane) (count : ℕ) : Type 0 where
+  IsNone : count ≡ 0 → AnswerGoesAtOnce lane count
+  IsAnswer : lane.phase ≡ phase.Answering → GoesAtOnce lane.lane count → AnswerGoesAtOnce lane count
+
+-- where nothing stands between the server and the client as many go so as surely are data, and as there is room for
+pub record AnswerIsStraight (lane : ResponseLane) : Type 0 where
+  pub answering : lane.phase ≡ phase.Answering
+  pub straight : IsStraight lane.lane
+
+abbrev pub straight_room : ResponseLane → ℕ
+straight_room lane = min (ahead_of lane.lane.reader) (lane.lane.output.capacity - length lane.lane.output.items)
 
 -- these bytes were pushed, and text was put out
 abbrev pub PassedSo : ResponseLane → List ℕ → ResponseLane → Type 0

@@ -17,7 +17,7 @@ use Rattle.h1_head.specs.Scanned.{IsScanned}
 use Rattle.h1_body.specs.declared.reader.BodyReader.{BodyReader}
 use Rattle.h1_body.specs.declared.reader.BodyState.{BodyState}
 use Rattle.h1_body.specs.declared.reader.BodyState.TheVariants as state
-use Rattle.h1_body.specs.Stands.{HasRead, state_of}
+use Rattle.h1_body.specs.Stands.{HasRead, state_of, ahead_of}
 use Rattle.h1_body.specs.Body.{BodyAt, Left, UntilClose, InLine, InData, AtReturn, AtFeed, InSection, Over, Hopeless}
 use Rattle.h1_body.specs.BodyOf.{place_of}
 use Rattle.lane.specs.Direction.Sent.{Sent}
@@ -183,6 +183,12 @@ pub record MayPass (lane : LaneState) (bytes : List ℕ) : Type 0 where
   pub at : IsAtData (place_of past.reads past.bytes)
   pub any : 0 < length bytes
   pub room : length lane.output.items < lane.output.capacity
+
+-- So many bytes, whatever they are, go to the text at once where they come: none, or no more than are surely data, for which there is room
+-- behind the text that waits.
+pub data GoesAtOnce (lane : LaneState) (count : ℕ) : Type 0 where
+  IsNone : count ≡ 0 → GoesAtOnce lane count
+  IsAhead : IsStraight lane → count ≤ ahead_of lane.reader → length lane.output.items + count ≤ lane.output.capacity → GoesAtOnce lane count
 
 -- what a reader's state says of the source
 abbrev pub source_told : BodyState → Source

@@ -1,9 +1,10 @@
 //! Data that goes from the stream to the text at once.
-ghost use Rattle.std.specs.Prelude.{◌≡◌, ◌≢◌, ◌≤◌, ◌<◌, ◌+◌, ◌++◌, [], length, take, true, None, List, ℕ};
+ghost use Rattle.std.specs.Prelude.{◌≡◌, ◌≢◌, ◌≤◌, ◌<◌, ◌+◌, ◌-◌, ◌++◌, [], length, take, min, true, None, List, ℕ};
 ghost use Rattle.body_filter.specs.declared.filter_spec.FilterSpec.{FilterSpec};
 ghost use Rattle.lane.specs.Direction.Filtering.{AreThese};
-ghost use Rattle.lane.specs.Direction.Sends.{Past, Stands, IsSound, IsStraight, MayPass, source_told, with_more};
+ghost use Rattle.lane.specs.Direction.Sends.{Past, Stands, IsSound, IsStraight, MayPass, GoesAtOnce, source_told, with_more};
 ghost use Rattle.htx_model.specs.Blocks.{append_data};
+ghost use Rattle.h1_body.specs.Stands.{ahead_of};
 ghost use Rattle.h1_write.specs.Spelled.{Writes};
 ghost use Rattle.http_model.specs.declared.Source.TheVariants as source;
 
@@ -54,6 +55,17 @@ impl Lane {
         self.writer.is_plain()
     }
 
+    /// So many bytes, whatever they are, go out at once where they come.
+    pub fn at_once(&self) -> usize
+        ensures goes { GoesAtOnce self.now result }
+        ensures most { IsStraight self.now → result ≡ min (ahead_of self.now.reader) (self.now.output.capacity - length self.now.output.items) }
+    {
+        if !self.is_straight() {
+            return 0;
+        }
+        self.reader.data_ahead().min(self.output.room())
+    }
+
     /// Bytes of the stream come, and go out at once, as many at the front as can; how many did. The caller pushes the others.
     /// Only data that is written as it is goes so, where nothing of the message waits in the lane: it is copied once.
     pub fn pass_data(&mut self, bytes: &[u8]) -> usize
@@ -69,6 +81,7 @@ impl Lane {
         ensures sound { IsSound self.new }
         ensures window { self.new.output.capacity ≡ self.old.output.capacity }
         ensures grows { (put : List ℕ) × (self.new.output.items ≡ self.old.output.items ++ put) }
+        ensures all { (count : ℕ) → GoesAtOnce self.old count → length bytes.now ≤ count → (result ≡ length bytes.now) × GoesAtOnce self.new (count - length bytes.now) }
         ensures settled { self.old.source ≢ source.Going → self.new.source ≡ self.old.source }
     {
         if !self.is_straight() {
