@@ -3,6 +3,7 @@ pub use Rattle.session_core.specs.Leads
 pub use Rattle.session_core.specs.Lanes
 pub use Rattle.lane.specs.Answering
 pub mod Seen
+pub mod AtOnce
 pub mod HeadsRead
 pub mod Status
 pub mod Stands

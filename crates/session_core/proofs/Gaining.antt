@@ -1,10 +1,11 @@
 -- Bytes of a server that come in two parts, of which the first went to the client at once.
-use Rattle.std.proofs.Common.{◌≡◌, ◌≢◌, ◌<◌, ℕ, suc, zero, true, List, [], ◌∷◌, ◌++◌, take, drop, ◌∙◌, refl, ap, sym, subst, append_assoc, false, Option, Some, arith, Bool}
+use Rattle.std.proofs.Common.{◌≡◌, ◌≢◌, ◌+◌, ◌<◌, ◌≤◌, ◌⊎◌, inl, inr, ℕ, suc, zero, true, List, [], ◌∷◌, ◌++◌, take, drop, ◌∙◌, refl, ap, sym, subst, append_assoc, false, Option, Some, arith, Bool}
 use Rattle.std.proofs.lemmas.List.{take-append-drop}
 use Rattle.session_model.specs.Meaning.{Meaning}
 use Rattle.session_core.specs.History.{Past, Connect, FromServer, after, at_last, given_by, gains}
 use Rattle.session_core.specs.Sided.{Sided, RequestSeen, AnswerSeen}
 use Rattle.session_core.specs.Stands.{Holds}
+use Rattle.session_core.specs.Waits.{is_turned, IsAtOnce, IsNone, IsTaken}
 use Rattle.session_core.specs.Leads.{StepsAnswer}
 use Rattle.session_core.specs.declared.machine.At.{At}
 use Rattle.session_core.specs.declared.Phase.TheVariants as phase
@@ -46,3 +47,15 @@ passes_on M S at q a b p past bytes is other opened same st h =
 pub some_or_none : (n : ℕ) (T : Type 0) → (n ≡ 0 → T) → (0 < n → T) → T
 some_or_none zero T none some = none refl
 some_or_none (suc n) T none some = some (grind (arith))
+
+-- bytes for which there is room, or that the directions take at once
+pub takes_room : (goes : ℕ → Type 0) (cut : Option Bool) (n room : ℕ) → (n ≤ room) ⊎ IsAtOnce goes cut n → (n ≤ room) ⊎ goes n
+takes_room goes cut n room (inl fits) = inl fits
+takes_room goes cut n room (inr (IsNone none)) = inl (omega arith)
+takes_room goes cut n room (inr (IsTaken other all)) = inr all
+
+-- where a refusal took the place of the answer they take none so
+pub turned_room : (goes : ℕ → Type 0) (cut : Option Bool) (n room : ℕ) → cut ≡ Some false → (n ≤ room) ⊎ IsAtOnce goes cut n → n ≤ 0 + room
+turned_room goes cut n room turned (inl fits) = omega arith
+turned_room goes cut n room turned (inr (IsNone none)) = omega arith
+turned_room goes cut n room turned (inr (IsTaken other all)) = absurd (let both : true ≡ false = sym (ap is_turned turned) ∙ other in cc both)

@@ -53,6 +53,12 @@ abbrev pub is_turned : Option Bool → Bool
 is_turned None = false
 is_turned (Some begun) = not begun
 
+-- So many bytes of the server, whatever they are, go to the client at once where they come: none, or as many as the directions take so while the
+-- server's answer goes out.
+pub data IsAtOnce (goes : ℕ → Type 0) (cut : Option Bool) (count : ℕ) : Type 0 where
+  IsNone : count ≡ 0 → IsAtOnce goes cut count
+  IsTaken : is_turned cut ≡ false → goes count → IsAtOnce goes cut count
+
 -- both directions have ended
 abbrev pub has_ended : RequestSeen → AnswerSeen → Bool
 has_ended q a = q.sent && is_empty q.window && a.answered

@@ -1,7 +1,7 @@
 //! What peers give and take: the calls that a driver makes.
-ghost use Rattle.std.specs.Prelude.{◌≡◌, ◌≢◌, ◌≤◌, ◌<◌, ◌+◌, [], length, take, IsTrue, Bool, true, false};
+ghost use Rattle.std.specs.Prelude.{◌≡◌, ◌≢◌, ◌≤◌, ◌<◌, ◌+◌, ◌⊎◌, [], length, take, IsTrue, Bool, true, false};
 ghost use Rattle.session_core.specs.History.{FromClient, ClientEnded, ClientTook, ServerOpened, FromServer, ServerEnded, ServerTook, ServerStopped, ServerClosed};
-ghost use Rattle.session_core.specs.Waits.{is_serving};
+ghost use Rattle.session_core.specs.Waits.{is_serving, IsAtOnce};
 ghost use Rattle.session_core.specs.Leads.{Leads};
 ghost use Rattle.session_core.specs.Place.{IsPlaced};
 
@@ -65,11 +65,12 @@ impl<S: Works> Core<S> {
         }
     }
 
-    /// The server gives these bytes. Data at their front goes to the client at once where nothing is to be done with it.
+    /// The server gives these bytes. Data at their front goes to the client at once where nothing is to be done with it. So they may be more than there
+    /// is room for, where all of them surely go so.
     pub fn from_server(&mut self, bytes: &[u8])
         requires serving { self.old.at.phase ≡ Phase.Serving }
         requires open { IsTrue (S.answer self.old.sides).is_open }
-        requires room { length bytes.now ≤ (S.answer self.old.sides).room }
+        requires room { (length bytes.now ≤ (S.answer self.old.sides).room) ⊎ IsAtOnce (S.at_once self.old.sides) self.old.at.cut (length bytes.now) }
         requires placed { IsPlaced (S.placed self.old.sides) (S.answer self.old.sides) self.old.at.phase self.old.at.cut }
         ensures placed { IsPlaced (S.placed self.new.sides) (S.answer self.new.sides) self.new.at.phase self.new.at.cut }
         ensures leads { Leads S.meaning S.request S.answer S.stands self.old.sides self.old.at self.new.sides self.new.at (FromServer bytes.now) }
@@ -84,7 +85,7 @@ impl<S: Works> Core<S> {
     fn pass_data(&mut self, bytes: &[u8]) -> usize
         requires serving { self.old.at.phase ≡ Phase.Serving }
         requires open { IsTrue (S.answer self.old.sides).is_open }
-        requires room { length bytes.now ≤ (S.answer self.old.sides).room }
+        requires room { (length bytes.now ≤ (S.answer self.old.sides).room) ⊎ IsAtOnce (S.at_once self.old.sides) self.old.at.cut (length bytes.now) }
         requires placed { IsPlaced (S.placed self.old.sides) (S.answer self.old.sides) self.old.at.phase self.old.at.cut }
         ensures within { result ≤ length bytes.now }
         ensures none { result ≡ 0 → self.new ≡ self.old }

@@ -1,7 +1,7 @@
 //! A core: its two directions, and where it stands in its session.
 ghost use Rattle.std.specs.Prelude.{◌≡◌, Option, Bool, true, false};
 ghost use Rattle.session_core.specs.History.{Past, nothing_yet};
-ghost use Rattle.session_core.specs.Waits.{is_serving};
+ghost use Rattle.session_core.specs.Waits.{is_serving, IsAtOnce};
 ghost use Rattle.session_core.specs.Sided.{Sided, HoldsList};
 ghost use Rattle.session_core.specs.Place as place;
 ghost use Rattle.session_core.specs.Place.{IsPlaced};
@@ -128,6 +128,17 @@ impl<S: Works> Core<S> {
         ensures { result ≡ (S.answer self.now.sides).room }
     {
         self.sides.server_room()
+    }
+
+    /// So many bytes of the server, whatever they are, go to the client at once where they come, and may be more than there is room for.
+    pub fn at_once(&self) -> usize
+        requires placed { IsPlaced (S.placed self.now.sides) (S.answer self.now.sides) self.now.at.phase self.now.at.cut }
+        ensures goes { IsAtOnce (S.at_once self.now.sides) self.now.at.cut result }
+    {
+        if self.is_turned() {
+            return 0;
+        }
+        self.sides.at_once()
     }
 
     /// The array on which request rules run.

@@ -1,5 +1,5 @@
 //! The two directions of a core, as it sees them.
-ghost use Rattle.std.specs.Prelude.{◌≡◌, ◌≢◌, ◌≤◌, ◌<◌, ◌++◌, ◌+◌, ◌-◌, [], ℕ, List, Bool, Option, true, false, not, nat_lt, length, take, drop, OnOk, IfOk, IsOk, IsTrue};
+ghost use Rattle.std.specs.Prelude.{◌≡◌, ◌≢◌, ◌≤◌, ◌<◌, ◌⊎◌, ◌++◌, ◌+◌, ◌-◌, [], ℕ, List, Bool, Option, true, false, not, nat_lt, length, take, drop, OnOk, IfOk, IsOk, IsTrue};
 ghost use Rattle.session_model.specs.Meaning.{Meaning};
 ghost use Rattle.session_core.specs.Consequences.{IsTotal};
 ghost use Rattle.session_core.specs.History.{no_stream, gains, ends};
@@ -54,6 +54,9 @@ pub trait Works {
 
     /// They are sound, and stand at this place of the exchange in hand.
     ghost placed: { Self → Place → Type 0 };
+
+    /// So many bytes of the server, whatever they are, go to the client at once where they come.
+    ghost at_once: { Self → ℕ → Type 0 };
 
     /// They are so, with this text in place of the one that waits for the client, or for the server.
     ghost with_to_client: { Self → List ℕ → Self };
@@ -129,6 +132,11 @@ pub trait Works {
         requires placed { IsSomewhere (placed self.now) }
         ensures { result ≡ (answer self.now).room };
 
+    /// So many bytes of the server, whatever they are, go to the client at once where they come.
+    fn at_once(&self) -> usize
+        requires placed { IsSomewhere (placed self.now) }
+        ensures goes { at_once self.now result };
+
     /// Bytes wait for the client.
     fn has_to_client(&self) -> bool
         requires placed { IsSomewhere (placed self.now) }
@@ -203,7 +211,7 @@ pub trait Works {
     /// and a step had put them out. The caller hands on the others.
     fn pass_data(&mut self, bytes: &[u8]) -> usize
         requires open { IsTrue (answer self.old).is_open }
-        requires room { length bytes.now ≤ (answer self.old).room }
+        requires room { (length bytes.now ≤ (answer self.old).room) ⊎ at_once self.old (length bytes.now) }
         requires placed { placed self.old place.Serves }
         ensures within { result ≤ length bytes.now }
         ensures none { result ≡ 0 → self.new ≡ self.old }
@@ -338,6 +346,9 @@ pub trait Works {
         ensures answer { (answer self.new).window ≡ (answer self.old).window };
 
     // ---- laws
+
+    /// Of fewer bytes it is so too.
+    ghost fewer_at_once: { (sides : Self) (most count : ℕ) → at_once sides most → count ≤ most → at_once sides count };
 
     ghost lends_to_client: { (sides : Self) → with_to_client sides (answer sides).window ≡ sides };
 

@@ -1,25 +1,18 @@
 -- Data of a server goes to the client at once.
 use Rattle.std.proofs.Common.{◌≡◌, ◌<◌, ◌++◌, ℕ, List, sym, subst, take}
-use Rattle.px_sample.specs.Variables.{Variables}
 use Rattle.http_rules.specs.declared.config.Config.{Config}
 use Rattle.forward_core.specs.Meaning.Product.{meaning_of}
-use Rattle.session_core.specs.History.{Coming, gains}
+use Rattle.session_core.specs.History.{gains}
 use Rattle.session_core.specs.Place as at
-use Rattle.session_core.specs.Sided.{Sided, Asking, Saying}
+use Rattle.session_core.specs.Sided.{Sided}
 use Rattle.forward_core.specs.Answer.Seen as answers
-use Rattle.forward_core.specs.Answer.Said.{PutsSome}
-use Rattle.forward_core.specs.Answer.Stands.{IsSoundSide, AnswerStands}
+use Rattle.forward_core.specs.Answer.Said.{PutsSome, AnswerPuts}
+use Rattle.forward_core.specs.Answer.Stands.{IsSoundSide}
 use Rattle.forward_core.specs.declared.answer.side.AnswerSide.{AnswerSide}
 use Rattle.forward_core.specs.Joined.Joined.{Placed, HasPast, DirectionsStand}
 use Rattle.forward_core.specs.declared.joined.directions.Directions.{Directions}
 use Rattle.forward_core.proofs.AnswerLemmas.PassLemmas.{none_or_some}
 use Rattle.forward_core.proofs.JoinedLemmas.Joining.{at_answer, stands_answer}
-
--- from each past of an answer direction these bytes lead to another, with more put out
-abbrev pub AnswerPuts : AnswerSide → AnswerSide → List ℕ → Type 0
-AnswerPuts old new bytes =
-    (cfg : Config) (asking : Asking Variables) (server : Coming) (put : List ℕ) (now : Variables) (saying : Saying)
-    → AnswerStands cfg old asking server put now saying → PutsSome cfg old new asking (gains server bytes) put now saying
 
 -- both stand for what was put out
 pub puts_on : (d : Directions) (a : AnswerSide) (bytes : List ℕ) → answers.place_of a ≡ answers.place_of d.answer → (cfg : Config) (p : Sided (meaning_of cfg))

@@ -6,7 +6,7 @@ use Rattle.http_rules.specs.declared.config.Config.{Config}
 use Rattle.forward_core.specs.Meaning.Product.{meaning_of}
 use Rattle.session_model.specs.Answering.{sent_interim}
 use Rattle.session_model.specs.Session.{interim_text}
-use Rattle.session_core.specs.History.{Coming}
+use Rattle.session_core.specs.History.{Coming, gains}
 use Rattle.session_core.specs.Leads.{AnswerWaits}
 use Rattle.session_core.specs.Sided.{Asking, asker_in, BeginsAlways, Saying}
 use Rattle.forward_core.specs.Answer.Seen.{seen}
@@ -44,3 +44,9 @@ pub record PutsSome (cfg : Config) (old new : AnswerSide) (asking : Asking Varia
   pub put : List ℕ
   pub stands : AnswerStands cfg new asking server (to_client ++ put) now saying
   pub window : (seen new).window ≡ (seen old).window ++ put
+
+-- from each past of an answer direction these bytes lead to another, with more put out
+abbrev pub AnswerPuts : AnswerSide → AnswerSide → List ℕ → Type 0
+AnswerPuts old new bytes =
+    (cfg : Config) (asking : Asking Variables) (server : Coming) (put : List ℕ) (now : Variables) (saying : Saying)
+    → AnswerStands cfg old asking server put now saying → PutsSome cfg old new asking (gains server bytes) put now saying

@@ -18,6 +18,7 @@ impl<'c> Works for Directions<'c> {
     ghost use Rattle.forward_core.specs.Rules.Ruling.{holds_pattern};
     ghost use Rattle.forward_core.specs.Joined.Joined.{SessionStands, Placed, request_of, answer_of};
     ghost use Rattle.forward_core.specs.Joined.Lent.{with_to_client, with_to_server, LendsToClient, LendsToServer, client_lent, server_lent};
+    ghost use Rattle.forward_core.specs.Answer.AtOnce.{TakesAtOnce, fewer_at_once};
     ghost use Rattle.std.specs.Borrow.{sem};
     ghost use Rattle.forward_core.specs.Joined.Begins.{begins};
     ghost use Rattle.forward_core.specs.Joined.Tells.{line_is, line_at};
@@ -36,6 +37,8 @@ impl<'c> Works for Directions<'c> {
     ghost stands = { SessionStands };
 
     ghost placed = { Placed };
+
+    ghost at_once = { λ d. TakesAtOnce d.answer };
 
     ghost with_to_client = { with_to_client };
 
@@ -95,6 +98,10 @@ impl<'c> Works for Directions<'c> {
 
     fn server_room(&self) -> usize {
         self.answer.room()
+    }
+
+    fn at_once(&self) -> usize {
+        self.answer.at_once()
     }
 
     fn has_to_client(&self) -> bool {
@@ -222,6 +229,8 @@ impl<'c> Works for Directions<'c> {
         self.answer.next();
         self.rules.begin_exchange();
     }
+
+    ghost fewer_at_once = { λ d most count goes fewer. fewer_at_once d.answer most count goes fewer };
 
     ghost lends_to_client = { client_lent };
 

@@ -1,5 +1,5 @@
-use Rattle.std.proofs.Common.{◌≢◌, ◌++◌, ◌∙◌, Some, false, refl, rules, take}
-use Rattle.session_core.proofs.Gaining.{passes_on}
+use Rattle.std.proofs.Common.{◌≡◌, ◌≢◌, ◌++◌, ◌∙◌, Some, false, refl, rules, take, length}
+use Rattle.session_core.proofs.Gaining.{passes_on, takes_room, turned_room}
 use Rattle.session_core.proofs.Events.{holds_at}
 use Rattle.session_core.proofs.Stalls.{not_turned}
 use Rattle.session_core.proofs.Placing.{placed_in, placed_at, serves, served}
@@ -37,3 +37,12 @@ returns-clause-placed g c =
     let other : c.args.self.now.at.cut ≢ Some false = λ e. absurd (search (rules, c.is_turned.ensures.1 e, c.if-is_turned.false)) in
     placed_at (g.S.Works.placed c.pass_data.new.self) (g.S.Works.answer c.pass_data.new.self) c.args.self.now.at.phase phase.Serving c.args.self.now.at.cut c.requires.serving
     (served (g.S.Works.placed c.pass_data.new.self) c.args.self.now.at.cut (not_turned c.args.self.now.at.cut other) c.pass_data.ensures.placed)
+
+pub pass_data-requires-clause-room : goal.pass_data-requires-clause-room
+pass_data-requires-clause-room g c =
+    takes_room (g.S.Works.at_once c.args.self.now.sides) c.args.self.now.at.cut (length c.args.bytes.now) (g.S.Works.answer c.args.self.now.sides).room c.requires.room
+
+pub returns-then-is_turned-clause-room : goal.returns-then-is_turned-clause-room
+returns-then-is_turned-clause-room g c =
+    let turned : c.args.self.now.at.cut ≡ Some false = c.is_turned.ensures.0 c.if-is_turned.true in
+    turned_room (g.S.Works.at_once c.args.self.now.sides) c.args.self.now.at.cut (length c.args.bytes.now) (g.S.Works.answer c.args.self.now.sides).room turned c.requires.room
