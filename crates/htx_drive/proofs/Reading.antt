@@ -7,7 +7,7 @@ use Rattle.px_link.specs.Link.{Seen, SameKind, Gave, ReadFailed, SameInput, coun
 use Rattle.px_link.specs.Calls.{fault_after}
 use Rattle.session_core.specs.History.{Coming, gains, ends}
 use Rattle.htx_drive.specs.Came.{EndsSo, Came, size_of}
-use Rattle.htx_drive.specs.Turned.{IsRead, most_read}
+use Rattle.htx_drive.specs.Turned.{IsRead}
 
 pub at_some : {A : Type 0} (o : Option A) (x : A) (P : A → Type 0) → o ≡ Some x → IfSome o P → P x
 at_some o x P e h = let Q : Option _ → Type 0 = λ o. IfSome o P in subst Q e h
@@ -122,8 +122,8 @@ pub size-front : (came : Coming) (n : ℕ) (buf tail : List ℕ) → 0 < n → n
 size-front came n buf tail z h =
     size-gains came (take n (buf ++ tail)) (let e : length (take n (buf ++ tail)) ≡ n = ap length (in_front n buf tail h) ∙ length-take-le n buf h in omega arith)
 
-pub read_front : (most n : ℕ) (buf tail : List ℕ) → 0 < n → n ≤ length buf → length buf ≤ most → length buf ≤ most_read → IsRead most (take n (buf ++ tail))
-read_front most n buf tail z h w m =
+pub read_front : (limit most n : ℕ) (buf tail : List ℕ) → 0 < n → n ≤ length buf → length buf ≤ most → length buf ≤ limit → IsRead limit most (take n (buf ++ tail))
+read_front limit most n buf tail z h w m =
     let e : length (take n (buf ++ tail)) ≡ n = ap length (in_front n buf tail h) ∙ length-take-le n buf h in
     ((omega arith, omega arith), omega arith)
 

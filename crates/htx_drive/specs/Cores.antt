@@ -1,11 +1,11 @@
 -- What the laws of a session's core say to a driver.
-use Rattle.std.proofs.Common.{◌≡◌, ◌≢◌, ℕ, ◌<◌, List, [], ◌∷◌, Bool, true, length, Some, sym, ap, refl, arith}
+use Rattle.std.proofs.Common.{◌≡◌, ◌≢◌, ℕ, ◌<◌, ◌≤◌, Option, List, [], ◌∷◌, Bool, true, length, Some, sym, ap, refl, arith}
 use Rattle.http_model.specs.declared.Close.{Close}
 use Rattle.http_model.specs.declared.End.{End}
 use Rattle.session_model.specs.Meaning.{Meaning}
 use Rattle.session_core.specs.History.{Past}
 use Rattle.session_core.specs.Sided.{Sided, RequestSeen, AnswerSeen}
-use Rattle.session_core.specs.Waits.{wants_of, is_serving}
+use Rattle.session_core.specs.Waits.{wants_of, is_serving, IsAtOnce, IsNone, IsTaken}
 use Rattle.session_core.specs.Consequences.{IsTotal, IsFinal, IsFront, out_of_past}
 use Rattle.session_core.specs.Drives.{WantsSay}
 use Rattle.session_core.specs.Leads.{Stands}
@@ -82,3 +82,7 @@ core_front M total request answer stands sides at past s =
 -- a core whose directions are as they were
 pub core_lends : {D C : Type 0} {old new : D} (core : D → C) → new ≡ old → core new ≡ core old
 core_lends core e = ap core e
+
+pub core_takes_fewer : (goes : ℕ → Type 0) → ((most count : ℕ) → goes most → count ≤ most → goes count) → (cut : Option Bool) (most count : ℕ) → IsAtOnce goes cut most → count ≤ most → IsAtOnce goes cut count
+core_takes_fewer goes fewer_goes cut most count (IsNone none) fewer = IsNone (omega arith)
+core_takes_fewer goes fewer_goes cut most count (IsTaken other all) fewer = IsTaken other (fewer_goes most count all fewer)

@@ -12,21 +12,24 @@ use Rattle.htx_drive.specs.declared.act.Act.TheVariants as act
 abbrev pub IsUpTo : ℕ → List ℕ → Type 0
 IsUpTo most bytes = (0 < length bytes) × (length bytes ≤ most)
 
--- the most bytes that one read asks for
-abbrev pub most_read : ℕ
-most_read = 16376
+-- the most bytes that one read of a client asks for, and one of a server
+abbrev pub most_of_client : ℕ
+most_of_client = 16376
 
--- what one read brings
-abbrev pub IsRead : ℕ → List ℕ → Type 0
-IsRead most bytes = IsUpTo most bytes × (length bytes ≤ most_read)
+abbrev pub most_of_server : ℕ
+most_of_server = 65536
+
+-- what one read brings, of which none asks for more than the limit
+abbrev pub IsRead : (limit most : ℕ) → List ℕ → Type 0
+IsRead limit most bytes = IsUpTo most bytes × (length bytes ≤ limit)
 
 -- What an act may add to a history: bytes that come or are taken, at least one and no more than its number, nor than a read asks for; or a stream
 -- ends, or a server stops.
 abbrev pub Makes : Act → Event → Type 0
-Makes (act.ClientRead most) (FromClient bytes) = IsRead most bytes
+Makes (act.ClientRead most) (FromClient bytes) = IsRead most_of_client most bytes
 Makes (act.ClientRead most) (ClientEnded how) = ⊤
 Makes (act.ClientWrite most) (ClientTook bytes) = IsUpTo most bytes
-Makes (act.ServerRead most) (FromServer bytes) = IsRead most bytes
+Makes (act.ServerRead most) (FromServer bytes) = IsRead most_of_server most bytes
 Makes (act.ServerRead most) (ServerEnded how) = ⊤
 Makes (act.ServerWrite most) (ServerTook bytes) = IsUpTo most bytes
 Makes (act.ServerWrite most) ServerStopped = ⊤
@@ -50,7 +53,7 @@ is_work _ = false
 
 -- These turns led to this past, one after another, and those are left; `worked` where the core has worked behind the last event. Each is taken where
 -- a core that stands for the past so far has worked, wants bytes to be moved and nothing to be opened or closed. It does what that core's wants make of
--- it (`act_of`): it moves something, no more than its number of bytes and for a read no more than 16376, or it moves nothing where it is to do
+-- it (`act_of`): it moves something, no more than its number of bytes and for a read no more than one asks for, or it moves nothing where it is to do
 -- nothing. Behind the list each takes the first want that stands.
 pub data InTurns {C : Type 0} (stands : C → Past → Type 0) (seen : C → CoreSeen) (turns : List Turn) : (worked : Bool) → List Turn → Past → Type 0 where
   starts : InTurns stands seen turns false turns nothing_yet

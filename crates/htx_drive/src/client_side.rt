@@ -5,7 +5,7 @@ ghost use Rattle.px_link.specs.Link.{Writes};
 ghost use Rattle.htx_drive.specs.Driven.{Idle, ClientMoves, Ends};
 ghost use Rattle.htx_drive.specs.declared.act.Act.TheVariants as act;
 
-use crate::resources::MOST_READ;
+use crate::resources::{MOST_KEPT, MOST_READ};
 use crate::{Machine, SessionFault};
 use px_link::{Ending, Failed, Fault, Link};
 
@@ -23,7 +23,7 @@ pub(crate) fn read_client<C: Machine, L: Link>(
     ensures moves { (cfg : C.Settings) (first : L) (past : Past) → Idle (C.stands cfg core.old) L.seen L.wrote first client.old false past → ClientMoves (act.ClientRead most) (C.stands cfg core.new) L.seen L.wrote first client.new past }
     ensures serving { (C.seen core.new).serving ≡ (C.seen core.old).serving }
 {
-    let n = MOST_READ.min(core.client_room()).min(most as usize);
+    let n = MOST_KEPT.min(core.client_room()).min(most as usize);
     match client.read(&mut buffer[..n]) {
         Ok(given) => {
             if given == 0 {

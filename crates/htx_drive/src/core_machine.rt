@@ -11,9 +11,10 @@ impl<S: Works> Machine for Core<S> {
     type Settings = S::Settings;
 
     ghost use Rattle.session_core.specs.Leads.{Stands};
+    ghost use Rattle.session_core.specs.Waits.{IsAtOnce};
     ghost use Rattle.session_core.specs.Place.{IsPlaced};
     ghost use Rattle.session_core.specs.Resting.{IsRested};
-    ghost use Rattle.htx_drive.specs.Cores.{core_seen, core_means, core_says, core_noted, core_tells, core_closes, core_over, core_front, core_lends};
+    ghost use Rattle.htx_drive.specs.Cores.{core_seen, core_means, core_says, core_noted, core_tells, core_closes, core_over, core_front, core_lends, core_takes_fewer};
 
     ghost meaning = { S.meaning };
 
@@ -24,6 +25,8 @@ impl<S: Works> Machine for Core<S> {
     ghost sound = { λ core. IsPlaced (S.placed core.sides) (S.answer core.sides) core.at.phase core.at.cut };
 
     ghost rested = { λ core. IsRested S.meaning S.answer S.stands core.sides core.at };
+
+    ghost at_once = { λ core. IsAtOnce (S.at_once core.sides) core.at.cut };
 
     ghost with_to_client = { λ core text. record core { sides = S.with_to_client core.sides text } };
 
@@ -40,6 +43,10 @@ impl<S: Works> Machine for Core<S> {
 
     fn server_room(&self) -> usize {
         self.server_room()
+    }
+
+    fn at_once(&self) -> usize {
+        self.at_once()
     }
 
     fn to_client(&mut self) -> &mut [u8] {
@@ -117,6 +124,8 @@ impl<S: Works> Machine for Core<S> {
     fn end_said(&mut self) {
         self.end_said();
     }
+
+    ghost fewer_at_once = { λ core most count goes fewer. core_takes_fewer (S.at_once core.sides) (λ more. S.fewer_at_once core.sides more) core.at.cut most count goes fewer };
 
     ghost lends_to_client = { λ core. core_lends (λ sides. record core { sides = sides }) (S.lends_to_client core.sides) };
 

@@ -1,5 +1,5 @@
 //! A core, as its driver sees it: calls, wants and laws.
-ghost use Rattle.std.specs.Prelude.{◌≡◌, ◌≤◌, ◌<◌, [], ℕ, List, Option, Some, Bool, true, false, length, take, None, OnOk, IfOk, IsErr, ◌↔◌};
+ghost use Rattle.std.specs.Prelude.{◌≡◌, ◌≤◌, ◌<◌, ◌⊎◌, [], ℕ, List, Option, Some, Bool, true, false, length, take, None, OnOk, IfOk, IsErr, ◌↔◌};
 ghost use Rattle.http_model.specs.declared.Close.{Close};
 ghost use Rattle.http_model.specs.declared.End.{End};
 ghost use Rattle.session_model.specs.Meaning.{Meaning};
@@ -31,6 +31,9 @@ pub trait Machine {
     /// It rests between two exchanges: nothing of a further request has come, and nothing of it is to be kept but its count of exchanges.
     ghost rested: { Self → Type 0 };
 
+    /// So many bytes of the server, whatever they are, may be given at once, though there may be less room.
+    ghost at_once: { Self → ℕ → Type 0 };
+
     /// It is so, with this text in place of the one that waits for the client, or for the server.
     ghost with_to_client: { Self → List ℕ → Self };
 
@@ -47,6 +50,11 @@ pub trait Machine {
     fn server_room(&self) -> usize
         requires sound { sound self.now }
         ensures { result ≡ (seen self.now).server_room };
+
+    /// So many bytes of the server, whatever they are, may be given at once, though there may be less room: they go to the client as they come.
+    fn at_once(&self) -> usize
+        requires sound { sound self.now }
+        ensures goes { at_once self.now result };
 
     /// The bytes that wait for the client, to be read alone.
     fn to_client(&mut self) -> &mut [u8]
@@ -114,7 +122,7 @@ pub trait Machine {
 
     fn from_server(&mut self, bytes: &[u8])
         requires wanted { (seen self.old).wants.server_read ≡ true }
-        requires room { length bytes.now ≤ (seen self.old).server_room }
+        requires room { (length bytes.now ≤ (seen self.old).server_room) ⊎ at_once self.old (length bytes.now) }
         requires sound { sound self.old }
         ensures sound { sound self.new }
         ensures leads { Leads stands self.old self.new (FromServer bytes.now) }
@@ -175,6 +183,9 @@ pub trait Machine {
         ensures leads { Leads stands self.old self.new (Work None) }
         ensures serving { (seen self.new).serving ≡ (seen self.old).serving }
         ensures lost { (seen self.new).lost ≡ (seen self.old).lost };
+
+    /// Of fewer bytes it is so too.
+    ghost fewer_at_once: { (c : Self) (most count : ℕ) → at_once c most → count ≤ most → at_once c count };
 
     ghost lends_to_client: { (c : Self) → with_to_client c (seen c).to_client ≡ c };
 

@@ -1,13 +1,31 @@
 //! Reads from an open server and writes to it.
-ghost use Rattle.std.specs.Prelude.{◌≡◌, ◌<◌, ◌++◌, ◌∷◌, [], List, true, false, IsErrOf, ℕ, ◌≤◌, length, take};
+ghost use Rattle.std.specs.Prelude.{◌≡◌, ◌<◌, ◌⊎◌, ◌++◌, ◌∷◌, [], List, true, false, IsErrOf, ℕ, ◌≤◌, length, take};
 ghost use Rattle.session_core.specs.History.{Past, Connect};
 ghost use Rattle.px_link.specs.Link.{Writes};
 ghost use Rattle.htx_drive.specs.Driven.{Linked, ServerMoves, Ends};
+ghost use Rattle.htx_drive.specs.Turned.{most_of_server};
 ghost use Rattle.htx_drive.specs.declared.act.Act.TheVariants as act;
 
-use crate::resources::MOST_READ;
+use crate::resources::{MOST_AHEAD, MOST_KEPT, MOST_READ};
 use crate::{Machine, SessionFault};
 use px_link::{Ending, Failed, Fault, Link};
+
+/// How many bytes the next read of its server asks for at most.
+fn most_wanted<C: Machine>(core: &C) -> usize
+    requires wanted { (C.seen core.now).wants.server_read ≡ true }
+    requires sound { C.sound core.now }
+    ensures some { 0 < result }
+    ensures most { result ≤ most_of_server }
+    ensures fits { (result ≤ (C.seen core.now).server_room) ⊎ C.at_once core.now result }
+{
+    let kept = match core.status() {
+        Some(_) => MOST_KEPT,
+        None => MOST_AHEAD,
+    };
+    MOST_READ
+        .min(core.at_once())
+        .max(kept.min(core.server_room()))
+}
 
 /// One read of the server's link into this buffer, whose end and whose failure are endings.
 pub(crate) fn read_server<C: Machine, L: Link>(
@@ -24,7 +42,7 @@ pub(crate) fn read_server<C: Machine, L: Link>(
         → ServerMoves (act.ServerRead most) (C.stands cfg core.new) L.seen L.wrote first link.new before past c }
     ensures serving { (C.seen core.new).serving ≡ (C.seen core.old).serving }
 {
-    let n = MOST_READ.min(core.server_room()).min(most as usize);
+    let n = most_wanted(core).min(most as usize);
     match link.read(&mut buffer[..n]) {
         Ok(given) => {
             if given == 0 {

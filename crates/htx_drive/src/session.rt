@@ -136,7 +136,7 @@ pub(crate) fn close_of(end: End) -> Close
 ///
 /// It works, then opens and closes servers at once; else it takes the next turn of the list, one read or one write of at most
 /// so many bytes, and behind the list the first want that stands: server write, client write, client read, server read. A read
-/// takes at most 16376 bytes. A read that fails is a broken end of the stream; a server's write that fails stops that server; a
+/// takes at most 16376 bytes, and of a server up to 65536 where they go to the client as they come. A read that fails is a broken end of the stream; a server's write that fails stops that server; a
 /// connect that fails is a refused server. The client's link is closed at the end, and each server's link is closed and kept.
 pub fn run_session<C: Machine, L: Link, N: Net<Link = L>, T: Turns>(
     core: &mut C,

@@ -2,7 +2,7 @@ use Rattle.std.proofs.Common.{ℕ, ◌<◌, ◌≤◌, length, refl, arith, ◌�
 use Rattle.std.proofs.lemmas.List.{length-take}
 use Rattle.http_model.specs.declared.Ending.TheVariants.{Closed, Broke}
 use Rattle.session_core.specs.History.{gains, ends, FromClient, ClientEnded}
-use Rattle.htx_drive.specs.Turned.{most_read}
+use Rattle.htx_drive.specs.Turned.{most_of_client}
 use Rattle.htx_drive.proofs.Reading.{came_gains, came_closes, came_breaks, in_front, read_front, size-front, size-ends, more_left}
 use Rattle.htx_drive.proofs.Writing.{put_still}
 use Rattle.htx_drive.proofs.client_side.read_client.Goals as goal
@@ -33,12 +33,12 @@ returns-else-given-eq0-clause-moves g c = λ cfg first past h.
     let is = (g.met.C.Machine.wants_say cfg c.args.core.now past h.stand).client_read c.requires.wanted in
     let some : 0 < c.in-Ok.given = omega arith in
     let within : length c.read.new.into ≤ c.args.most = omega (arith, length-take {A = ℕ}) in
-    let short : length c.read.new.into ≤ most_read = omega (arith, length-take {A = ℕ}) in
+    let short : length c.read.new.into ≤ most_of_client = omega (arith, length-take {A = ℕ}) in
     record {
       came = gains past.client _;
       taken = past.taken;
       event = FromClient _;
-      makes = read_front c.args.most c.in-Ok.given c.read.new.into _ some r.within within short;
+      makes = read_front most_of_client c.args.most c.in-Ok.given c.read.new.into _ some r.within within short;
       is = refl;
       idle = record {
         stand = c.from_client.ensures.leads cfg past h.stand;

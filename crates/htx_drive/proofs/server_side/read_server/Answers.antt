@@ -2,7 +2,7 @@ use Rattle.std.proofs.Common.{ℕ, ◌<◌, ◌≤◌, length, arith, ◌∙◌}
 use Rattle.std.proofs.lemmas.List.{length-take}
 use Rattle.http_model.specs.declared.Ending.TheVariants.{Closed, Broke}
 use Rattle.session_core.specs.History.{gains, ends, given_by, ended_by, FromServer, ServerEnded}
-use Rattle.htx_drive.specs.Turned.{most_read}
+use Rattle.htx_drive.specs.Turned.{most_of_server}
 use Rattle.htx_drive.proofs.Reading.{came_gains, came_closes, came_breaks, in_front, read_front, size-front, size-ends}
 use Rattle.htx_drive.proofs.Writing.{put_still}
 use Rattle.htx_drive.proofs.Last.{stand_last, last_is, more_stream}
@@ -34,11 +34,11 @@ returns-else-given-eq0-clause-moves g c = λ cfg first before past k s e h.
     let is = (g.met.C.Machine.wants_say cfg c.args.core.now past s).server_read before k e c.requires.wanted in
     let some : 0 < c.in-Ok.given = omega arith in
     let within : length c.read.new.into ≤ c.args.most = omega (arith, length-take {A = ℕ}) in
-    let short : length c.read.new.into ≤ most_read = omega (arith, length-take {A = ℕ}) in
+    let short : length c.read.new.into ≤ most_of_server = omega (arith, length-take {A = ℕ}) in
     record {
       next = given_by _ k;
       event = FromServer _;
-      makes = read_front c.args.most c.in-Ok.given c.read.new.into _ some r.within within short;
+      makes = read_front most_of_server c.args.most c.in-Ok.given c.read.new.into _ some r.within within short;
       is = last_is past before k (given_by _) e;
       stand = stand_last (g.C.Machine.stands cfg c.from_server.new.self) past before k (given_by _) e (c.from_server.ensures.leads cfg past s);
       linked = record {
