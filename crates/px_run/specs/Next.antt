@@ -26,7 +26,7 @@ at_close (Some how) = Some (next.Close how)
 
 -- The reads and writes, each where it is wanted and answered at once. A server is read before its client is written to, so that what it gives in several reads
 -- goes out by one write; and before its client is read: a client that waits for a response head (RFC 9110 section 10.1.1) is read as soon as it gives something
--- and its server doesn't.
+-- and its server doesn't. A server that isn't asked gives nothing: none is while enough waits for a client that takes it (`readiness.rt`).
 abbrev pub moves_of : Wants → Ready → List (Option Next)
 moves_of wants ready =
     when (wants.server_write && ready.server_write) (next.Move (turns.ServerTakes unbounded))

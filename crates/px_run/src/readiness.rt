@@ -68,12 +68,14 @@ fn cork<L: Waits>(link: &mut L, writes: bool, follows: bool)
 }
 
 /// Which call is answered at once, of those that are wanted: they are asked one after another in the order in which they are made (`next_of`), and none behind
-/// the first, since each question may be a call of the system.
+/// the first, since each question may be a call of the system. Where enough waits for its client (`has_enough`) its server isn't asked before its client takes
+/// none of it: what is read behind a window that is full goes the long way.
 pub(crate) fn ready_of<L: Waits, N: WaitsNet<Link = L>>(
     conn: &mut Conn<L, N>,
     wants: &Wants,
     to: &Address,
     connect_over: bool,
+    has_enough: bool,
 ) -> Ready
     ensures client { IsSame L.seen L.wrote conn.old.client conn.new.client }
     ensures server { IsSameServer L.seen L.wrote conn.old.server conn.new.server }
@@ -82,15 +84,26 @@ pub(crate) fn ready_of<L: Waits, N: WaitsNet<Link = L>>(
 {
     let connect = may_open(&mut conn.net, to, wants.server_open, connect_over);
     let server_write = may_write_server(&mut conn.server, wants.server_write);
-    let server_read = may_read_server(&mut conn.server, wants.server_read && !server_write);
+    let goes_first = may_write(
+        &mut conn.client,
+        wants.client_write && has_enough && !server_write,
+    );
+    let server_read = may_read_server(
+        &mut conn.server,
+        wants.server_read && !server_write && !goes_first,
+    );
     let server = server_write || server_read;
-    let client_write = may_write(&mut conn.client, wants.client_write && !server);
+    let goes_behind = may_write(
+        &mut conn.client,
+        wants.client_write && !has_enough && !server,
+    );
+    let client_write = goes_first || goes_behind;
     let client_read = may_read(
         &mut conn.client,
         wants.client_read && !server && !client_write,
     );
-    // where a server isn't to be read its bytes may wait within, behind a window that is full
-    let within = client_write && !wants.server_read && conn.server.is_some();
+    // where a server isn't to be read its bytes may wait within, behind a window that is full, and where enough waits more is on its way
+    let within = (goes_first || client_write && !wants.server_read) && conn.server.is_some();
     cork(&mut conn.client, client_write, server_read || within);
     Ready {
         client_read,

@@ -20,6 +20,10 @@ use htx_drive::weave::{Conn, Resets, fail, finish};
 use htx_drive::{MOST_READ, SessionFault, Wants};
 use px_link::{Address, OutOfMemory, Turn, Waits, WaitsNet};
 
+/// So many bytes for a client are written before its server is read again: three quarters of an output window of the default size, so that a read behind them
+/// is none of a few bytes.
+const ENOUGH: usize = 49152;
+
 /// What all connections use, one after another.
 #[derive(Drop)]
 pub(crate) struct Tools {
@@ -227,7 +231,8 @@ fn does<C: Resets, L: Waits, N: WaitsNet<Link = L>>(
     ensures may { StepsTo result (MayStep C.seen C.sound core.new conn.new.server (N.seen conn.new.net) conn.new.ran) (HasCome result (C.sound core.new) conn.new.server conn.new.ran) }
 {
     pace.wants(wants, core.client_room(), core.exchanges(), tools.now);
-    let ready = ready_of(conn, wants, to, pace.connect_over);
+    let has_enough = waiting(core) >= ENOUGH;
+    let ready = ready_of(conn, wants, to, pace.connect_over, has_enough);
     let next = next_of(wants, &ready);
     pace.did(&next, tools.now);
     act(conn, core, next, wants, to, tools)
