@@ -20,6 +20,10 @@ use px_link::{Fault, OutOfMemory, Waits, WaitsNet, Wakes};
 use px_proxyproto::{HasPair, Introduces};
 use serve_run::{Responder, ask_for};
 
+/// So many links are accepted in a round at most. Others wait in the system's backlog until those in hand have gone on: the fewer are in hand, the more of
+/// what they need is in a cache of the processor.
+const ACCEPTS_A_ROUND: u32 = 8;
+
 /// Whether as many links were accepted as are to be, or as the number of a connection counts.
 fn has_all(accepted: u32, connections: Option<u32>) -> bool
     ensures all { result ≡ true → IfSome connections (λ count. count ≤ accepted) }
@@ -258,7 +262,7 @@ fn accept_further<
     }
 }
 
-/// Accepts the links that wait, while places are free.
+/// Accepts the links that wait, while places are free, and so many at most.
 pub(crate) fn accepts<
     C: ResetsFor + Drop,
     L: Waits + HasPair,
@@ -284,7 +288,7 @@ pub(crate) fn accepts<
     if !accepts_more(hall.accepted, plan, nets) {
         return Ok(());
     }
-    for _ in 0..u32::MAX {
+    for _ in 0..ACCEPTS_A_ROUND {
         match accept_further(hall, agenda, net, nets, wakes, plan) {
             Ok(true) => {}
             Ok(false) => return Ok(()),
