@@ -1,6 +1,6 @@
 -- A net's links that ask an application, by what the net below does.
 use Rattle.std.proofs.Common.{◌≡◌, ℕ, ◌+◌, ◌-◌, ◌≤◌, ◌==◌, Bool, not, List, [], ◌∷◌, ◌++◌, length, take, drop, refl, sym, ap, subst, ◌∙◌, arith}
-use Rattle.std.specs.Prelude.{Option, Some, None, option_map}
+use Rattle.std.specs.Prelude.{Option, Some, None, option_map, is_some}
 use Rattle.std.proofs.lemmas.List.{append_assoc, length-append, length-drop, take-append-le, drop-append-le}
 use Rattle.px_link.specs.Link.{Seen, Manner, AsItIs, PassesOn, AsksBy}
 use Rattle.px_link.specs.Net.{Kept, NetSeen, Keeps, KeepsMore, kept_link, has_failed}
@@ -10,7 +10,7 @@ use Rattle.fcgi_link.specs.declared.responder.Responder.{Responder}
 use Rattle.fcgi_link.specs.Exchange.{AppLinkSeen, seen_over, WroteOver, link_over, LinkWrote, note_of}
 use Rattle.fcgi_link.specs.Exchange as exchange
 use Rattle.fcgi_link.specs.Asked.{answers_through}
-use Rattle.fcgi_link.specs.Nets.{asking_some, noted, each_noted, kept_noted, HaveNotes, with_notes}
+use Rattle.fcgi_link.specs.Nets.{asking_some, noted, each_noted, kept_noted, HaveNotes, with_notes, notes_with}
 
 -- ---- notes of kept links
 
@@ -36,6 +36,12 @@ kept_more kept notes one own within =
     let same : length (kept ++ one ∷ []) - length (notes ++ own ∷ []) ≡ before = omega (arith, length-append kept (one ∷ []), length-append notes (own ∷ [])) in
     ap (λ (n : ℕ). take n (kept ++ one ∷ []) ++ each_noted (drop n (kept ++ one ∷ [])) (notes ++ own ∷ [])) same
     ∙ at_the_end before kept notes one own (omega (arith, within))
+
+-- ---- notes where kept links are told, and where they aren't
+
+pub as_noted : (notes : List (Option Note)) (own : Option Note) (kept : Option (List Kept)) → option_map (kept_noted (notes ++ own ∷ [])) kept ≡ option_map (kept_noted (notes_with (is_some kept) notes own)) kept
+as_noted notes own None = refl
+as_noted notes own (Some kept) = refl
 
 -- ---- a link that was kept
 

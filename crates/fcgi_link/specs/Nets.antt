@@ -1,5 +1,5 @@
 -- A net whose connected links ask an application, in words of the net below it.
-use Rattle.std.specs.Prelude.{◌≡◌, ◌≤◌, ◌-◌, List, [], ◌∷◌, ◌++◌, length, take, drop, Option, Some, None, option_map, IfSome, ⊤}
+use Rattle.std.specs.Prelude.{◌≡◌, ◌≤◌, ◌-◌, Bool, true, false, List, [], ◌∷◌, ◌++◌, length, take, drop, Option, Some, None, option_map, IfSome, ⊤}
 use Rattle.px_link.specs.Link.{Manner, AsItIs, Behind, Asks}
 use Rattle.px_link.specs.Net.{Kept, NetSeen}
 use Rattle.fcgi_link.specs.Asked.{answers_through}
@@ -56,6 +56,11 @@ kept_noted notes kept = let before = length kept - length notes in take before k
 -- there is a kept link for each note
 abbrev pub HaveNotes : (notes : List (Option Note)) → Option (List Kept) → Type 0
 HaveNotes notes kept = IfSome kept (λ kept. length notes ≤ length kept)
+
+-- the notes behind a further kept link: its own behind the others, where kept links are told
+abbrev pub notes_with : (tells : Bool) → (notes : List (Option Note)) → (own : Option Note) → List (Option Note)
+notes_with true notes own = notes ++ own ∷ []
+notes_with false notes own = notes
 
 -- ---- the net
 

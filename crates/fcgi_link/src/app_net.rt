@@ -3,7 +3,7 @@ ghost use Rattle.std.specs.Prelude.{◌≡◌, ◌<◌, ◌≤◌, ◌+◌, List
 ghost use Rattle.px_link.specs.Link.{AsItIs};
 ghost use Rattle.fcgi_link.specs.declared.note.Note.{Note};
 ghost use Rattle.fcgi_link.specs.Asked.{asking};
-ghost use Rattle.fcgi_link.specs.Nets.{asking_some, with_notes, IsOver, IsBegun};
+ghost use Rattle.fcgi_link.specs.Nets.{asking_some, with_notes, IsOver, IsBegun, notes_with};
 
 use crate::app_link::AppLink;
 use crate::asks_application::AsksApplication;
@@ -23,7 +23,7 @@ pub struct AppNet<N: Net> {
     alloc: Global,
     inner: N,
     responder: Option<Responder>,
-    /// Of the links that were kept, in order. There is room for each link that is lent.
+    /// Of the links that were kept, in order, where the net below tells of them. There is room for each link that is lent.
     notes: Vec<Option<Note>>,
     lent: usize,
 }
@@ -72,13 +72,16 @@ fn take_room(notes: &mut Vec<Option<Note>>, lent: usize) -> Result<(), OutOfMemo
     Ok(())
 }
 
-/// Puts a note behind the others. There is room for it.
-fn push_note(notes: &mut Vec<Option<Note>>, note: Option<Note>)
+/// Notes a link that was kept behind the others, where such links are told. There is room for it.
+fn note_kept(notes: &mut Vec<Option<Note>>, note: Option<Note>, tells: bool)
     requires { vec_len notes.old < vec_capacity notes.old }
-    ensures items { notes.new.items ≡ notes.old.items ++ note ∷ [] }
+    ensures items { notes.new.items ≡ notes_with tells notes.old.items note }
+    ensures longer { vec_len notes.new ≤ vec_len notes.old + 1 }
     ensures capacity { vec_capacity notes.old ≤ vec_capacity notes.new }
 {
-    notes.push(note).unwrap();
+    if tells {
+        notes.push(note).unwrap();
+    }
 }
 
 /// The memory that is wanted before a link is connected: that of its note, and that of what it asks.
@@ -138,7 +141,7 @@ impl<N: Net> AppNet<N> {
         &self.inner
     }
 
-    /// What is noted of the links that were kept, in order.
+    /// What is noted of the links that were kept, in order. Where the net below tells of none nothing is.
     pub fn notes(&self) -> &[Option<Note>]
         ensures { result.now ≡ self.now.notes }
     {
@@ -168,6 +171,9 @@ impl<N: Net> AppNet<N> {
 }
 
 impl<N: Net> Net for AppNet<N> {
+    ghost use Rattle.std.specs.Prelude.{is_some};
+    ghost use Rattle.px_link.specs.Net.{Keeps};
+    ghost use Rattle.fcgi_link.specs.Exchange.{LinkWrote, link_over, note_of};
     ghost use Rattle.fcgi_link.specs.Nets.{net_over};
 
     type Link = AppLink<N::Link>;
@@ -204,11 +210,20 @@ impl<N: Net> Net for AppNet<N> {
         }
     }
 
-    fn keep(&mut self, link: AppLink<N::Link>) {
+    /// Where the net below tells of no links that were kept nothing is noted, and so no memory stays with a link that was.
+    fn keep(&mut self, link: AppLink<N::Link>)
+        requires { 0 < (net_over N.seen self.old).lent }
+        ensures keeps { Keeps (LinkWrote N.Link.wrote link) (net_over N.seen self.old) (net_over N.seen self.new) (link_over N.Link.seen link) }
+        ensures notes { self.new.notes ≡ notes_with (is_some (N.seen self.new.inner).kept) self.old.notes (note_of link.exchange) }
+    {
         let note = link.note();
         self.inner.keep(link.into_inner());
-        push_note(&mut self.notes, note);
+        note_kept(&mut self.notes, note, self.inner.tells_kept());
         self.lent -= 1;
+    }
+
+    fn tells_kept(&self) -> bool {
+        self.inner.tells_kept()
     }
 }
 

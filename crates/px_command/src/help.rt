@@ -122,9 +122,9 @@ Example:
   htx_proxy run site.cfg --log               writes a line for each exchange too, once all that its client is sent stands ready
 
 Options come in any order, each at most once. A connection has one of the K sets from the first bytes of a request on until shortly
-behind its answer; where a rule sets a variable of the session it keeps it. Where all are out the next one waits, or of those that
-keep theirs the one ends whose next request is awaited longest. At most four times K are open at once: where all are, the one ends
-whose next request is awaited longest, and further ones wait. `timeout` lines of the configuration take effect.
+behind its answer; where a rule sets or unsets a variable of the session it keeps it. Where all are out the next one waits, or of
+those that keep theirs the one ends whose next request is awaited longest. At most four times K are open at once: where all are, the
+one ends whose next request is awaited longest, and further ones wait. `timeout` lines of the configuration take effect.
 
 With --log the line of an exchange says of which connection it is, and which of its exchanges, who asked, the method and the
 target as they were received, the status and the bytes that the client was sent, and the milliseconds since the request's head

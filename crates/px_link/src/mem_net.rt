@@ -292,4 +292,8 @@ impl Net for MemNet {
         self.lent -= 1;
         self.kept.push(link).unwrap();
     }
+
+    fn tells_kept(&self) -> bool {
+        true
+    }
 }

@@ -1,5 +1,5 @@
 //! Where links come from, and where they go.
-ghost use Rattle.std.specs.Prelude.{◌≡◌, ℕ, ◌<◌, List};
+ghost use Rattle.std.specs.Prelude.{◌≡◌, ℕ, ◌<◌, List, is_some};
 ghost use Rattle.px_link.specs.Net.{NetSeen, Binds, Accepts, Connects, Keeps, address_of};
 
 use crate::{Address, Fault, Link};
@@ -27,4 +27,8 @@ pub trait Net {
     fn keep(&mut self, link: Self::Link)
         requires { 0 < (seen self.old).lent }
         ensures keeps { Keeps (Self.Link.wrote link) (seen self.old) (seen self.new) (Self.Link.seen link) };
+
+    /// Whether it tells of the links that were kept.
+    fn tells_kept(&self) -> bool
+        ensures tells { result ≡ is_some (seen self.now).kept };
 }

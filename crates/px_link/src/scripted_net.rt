@@ -101,6 +101,10 @@ impl<N: Net> Net for ScriptedNet<N> {
     fn keep(&mut self, link: Scripted<N::Link>) {
         self.net.keep(link.into_link());
     }
+
+    fn tells_kept(&self) -> bool {
+        self.net.tells_kept()
+    }
 }
 
 impl<N: Net> WaitsNet for ScriptedNet<N> {

@@ -109,6 +109,10 @@ impl<N: Net> Net for SendNet<N> {
     fn keep(&mut self, link: SendLink<N::Link>) {
         self.inner.keep(link.into_inner());
     }
+
+    fn tells_kept(&self) -> bool {
+        self.inner.tells_kept()
+    }
 }
 
 impl<N: Net> Introduces for SendNet<N> {

@@ -314,6 +314,10 @@ impl<'a, R: net::Net + Eprint> Net for ReadyNet<'a, R> {
         self.lent -= 1;
         drop(link);
     }
+
+    fn tells_kept(&self) -> bool {
+        false
+    }
 }
 
 impl<'a, R: net::Net + Eprint> WaitsNet for ReadyNet<'a, R> {

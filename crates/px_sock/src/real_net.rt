@@ -210,4 +210,8 @@ impl<'a, R: net::Net + Clock + Eprint> Net for RealNet<'a, R> {
         link.wait_for_end(self.rt);
         drop(link);
     }
+
+    fn tells_kept(&self) -> bool {
+        false
+    }
 }

@@ -40,4 +40,8 @@ impl Net for RecordNet {
     fn keep(&mut self, link: MemLink) {
         self.net.keep(link);
     }
+
+    fn tells_kept(&self) -> bool {
+        self.net.tells_kept()
+    }
 }
