@@ -1,9 +1,10 @@
 #!/usr/bin/env bash
 # try-fastcgi.sh [PROGRAM]: php-fpm as the server behind `serve` and behind `run`, over loopback, and curl in front of it. It prints a line for each check, `ok NAME` or `FAILED NAME: WHY`, and ends with
-# 0 where all are ok. PROGRAM is the built program, as `rt ci` leaves it. Where curl or php-fpm is missing it is installed from Debian, which wants root. It is no part of the gate.
+# 0 where all are ok. PROGRAM is the built program, as `rt ci` leaves it. EXCHANGES (10000) is how many requests one connection has in the check of memory. Where curl or php-fpm is missing it is installed from Debian, which wants root. It is no part of the gate.
 set -u
 here="$(cd "$(dirname "$0")/.." && pwd)"
 program="$(realpath "${1:-$here/crates/htx_proxy/out/htx_proxy}")"
+exchanges="${EXCHANGES:-10000}"
 [ -x "$program" ] || { echo "try-fastcgi: no program $program: run \`rt ci\`, or name a built one" >&2; exit 70; }
 
 # ---- what it needs
@@ -124,6 +125,7 @@ ended() { # waits for the program at most 20 seconds; its status is in $status
   if kill -0 "$serving" 2>/dev/null; then kill "$serving"; wait "$serving" 2>/dev/null; status=late; return; fi
   wait "$serving"; status=$?
 }
+most_memory() { awk '/^VmHWM/ { print $2 }' "/proc/$serving/status"; }
 fetch() { curl -sS --noproxy '*' --max-time 20 "$@"; }
 url="http://127.0.0.1:$front"
 finish() { # NAME WRONG LINE: ends a check in which WRONG was seen so far; the one line of a connection that the program is to write
@@ -198,6 +200,14 @@ for how in serve run; do
   configure
   serve 1; fetch "$url/server.php" "$url/form.php" -o /dev/null -o "$work/got"
   finish "two requests on one connection" "$(is "$work/got" 'GET none none')" 'end done exchanges 2'
+
+  serve 3; fetch "$url/lost.php?[1-500]" -o /dev/null; least="$(most_memory)"
+  fetch --max-time 300 "$url/lost.php?[1-$exchanges]" -o /dev/null; most="$(most_memory)"
+  fetch "$url/lost.php" -o "$work/got"; wrong="$(is "$work/got" 'not here')"
+  ended; [ "$status" = 0 ] || wrong="$wrong status $status"
+  grep -q "^connection 2: end done exchanges $exchanges$" "$work/lines" || wrong="$wrong the lines are: $(head -c 300 "$work/lines" | tr '\n' '/')"
+  [ "$most" -le $((least + 150)) ] || wrong="$wrong memory grows"
+  says "$how: $exchanges requests on one connection, at most $least and $most KB" "$wrong"
 done
 
 # ---- many clients at once

@@ -244,8 +244,11 @@ finish "$requests requests of ab on 64 kept connections, $(sed -n 's/^Requests p
   "$(wrong_in "$work/got"; grep -q "^Complete requests: *$requests" "$work/got" || tail -2 "$work/got")"
 
 run --sets 64
-ab -q -c 64 -n "$((requests / 5))" "$url/small" >"$work/got" 2>&1
-finish "$((requests / 5)) connections of ab, 64 at once" "$(wrong_in "$work/got"; grep -q "^Complete requests: *$((requests / 5))$" "$work/got" || tail -2 "$work/got")"
+ab -q -c 64 -n "$((requests / 5))" "$url/small" >"$work/got" 2>&1; least="$(memory)"
+wrong="$(wrong_in "$work/got"; grep -q "^Complete requests: *$((requests / 5))$" "$work/got" || tail -2 "$work/got")"
+ab -q -c 64 -n "$((requests * 3 / 5))" "$url/small" >"$work/got" 2>&1; most="$(memory)"
+finish "$((requests / 5)) connections of ab, 64 at once, and $((requests * 3 / 5)) more, $least and $most KB" \
+  "$wrong$(wrong_in "$work/got"; grep -q "^Complete requests: *$((requests * 3 / 5))$" "$work/got" || tail -2 "$work/got"; [ "$most" -le $((least + 500)) ] || echo 'memory grows ')"
 
 run --sets 256
 behind "${peers[@]}" idle_clients "$front" 500 60 >"$work/idle"; idle=$!; started+=("$idle")
