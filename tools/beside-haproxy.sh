@@ -3,7 +3,8 @@
 # of 2 and of 204800 bytes, all on one connection and a connection each. HAProxy has one thread and `option http-server-close`, so that both open a connection
 # to the server for each exchange. A first exchange is not counted. PROGRAM is the built program, as `rt ci` leaves it. What else runs on the machine makes
 # each figure larger. Behind it stand requests a second, and processor time a request, of `run` and HAProxy with 1, 64 and 256 connections at once, kept and for
-# one request each, by wrk (Debian's package of this name), over SECONDS_OF_WRK (5) seconds each; with ONLY_AT_ONCE=1 these alone.
+# one request each, by wrk (Debian's package of this name), and ours as a share of HAProxy's time: both are loaded in turns, TURNS (5) of SECONDS_OF_WRK (2) seconds each, and
+# the median counts, so that a machine that gets faster or slower meanwhile changes both. With ONLY_AT_ONCE=1 these alone.
 set -u
 here="$(cd "$(dirname "$0")/.." && pwd)"
 program="$(realpath "${1:-$here/crates/htx_proxy/out/htx_proxy}")"
