@@ -206,7 +206,7 @@ for how in serve run; do
   fetch "$url/lost.php" -o "$work/got"; wrong="$(is "$work/got" 'not here')"
   ended; [ "$status" = 0 ] || wrong="$wrong status $status"
   grep -q "^connection 2: end done exchanges $exchanges$" "$work/lines" || wrong="$wrong the lines are: $(head -c 300 "$work/lines" | tr '\n' '/')"
-  [ "$most" -le $((least + 150)) ] || wrong="$wrong memory grows"
+  [ "$most" -le $((least + 40 + exchanges / 128)) ] || wrong="$wrong memory grows"
   says "$how: $exchanges requests on one connection, at most $least and $most KB" "$wrong"
 done
 

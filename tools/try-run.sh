@@ -248,7 +248,7 @@ ab -q -c 64 -n "$((requests / 5))" "$url/small" >"$work/got" 2>&1; least="$(memo
 wrong="$(wrong_in "$work/got"; grep -q "^Complete requests: *$((requests / 5))$" "$work/got" || tail -2 "$work/got")"
 ab -q -c 64 -n "$((requests * 3 / 5))" "$url/small" >"$work/got" 2>&1; most="$(memory)"
 finish "$((requests / 5)) connections of ab, 64 at once, and $((requests * 3 / 5)) more, $least and $most KB" \
-  "$wrong$(wrong_in "$work/got"; grep -q "^Complete requests: *$((requests * 3 / 5))$" "$work/got" || tail -2 "$work/got"; [ "$most" -le $((least + 500)) ] || echo 'memory grows ')"
+  "$wrong$(wrong_in "$work/got"; grep -q "^Complete requests: *$((requests * 3 / 5))$" "$work/got" || tail -2 "$work/got"; [ "$most" -le $((least + 100 + requests * 3 / 5 / 128)) ] || echo 'memory grows ')"
 
 run --sets 256
 behind "${peers[@]}" idle_clients "$front" 500 60 >"$work/idle"; idle=$!; started+=("$idle")
